@@ -1,0 +1,97 @@
+-- `load` meets its contract. The loop's invariant: the caps written, and those of the tracks still to come, are all. Assumes nothing.
+use borrow.Author.Needs.{needs}
+use mathlib.Core.Path.{_≡_, refl, sym, ap, _∙_}
+use mathlib.Core.Bool.{Bool, true, false}
+use mathlib.Core.List.{_∷_, _++_}
+use Prim.Native.Nat.{ℕ, suc, _+_, _-_, _≤_}
+use native.Mathlib.Omega.{arith}
+use lib.ListN.{length, take, drop}
+use Rattle.laws.specs.Walk.{store-step, store-end}
+use Rattle.fill.specs.Rests.{caps}
+use Rattle.fill.specs.Answer.{capAt}
+use Rattle.fill.proofs.Turns.{capsFrom, caps-step, caps-end}
+use Rattle.fill.proofs.lists.load.Statement.{statement}
+use Rattle.fill.proofs.lists.load.Tie as tie
+
+abbrev Inv-loop : tie.InvT-loop
+Inv-loop dots affected limited rooms rests₀ i₀ rests i = (i ≤ length rests₀) × (length rests ≡ length rests₀) × (take i rests ++ capsFrom affected limited rooms i dots ≡ caps dots affected limited rooms)
+
+abbrev μ-loop : tie.MeasureT-loop
+μ-loop dots affected limited rooms rests₀ i₀ rests i = length rests₀ - i
+
+loop-holds : tie.Need-loop-holds Inv-loop μ-loop
+loop-holds c = search needs
+
+shared-slice-read-new : tie.Need-shared-slice-read-new Inv-loop μ-loop
+shared-slice-read-new c = search needs
+
+shared-slice-read-new-2 : tie.Need-shared-slice-read-new-2 Inv-loop μ-loop
+shared-slice-read-new-2 c = search needs
+
+mul-new : tie.Need-mul-new Inv-loop μ-loop
+mul-new c = search needs
+
+shared-slice-read-new-3 : tie.Need-shared-slice-read-new-3 Inv-loop μ-loop
+shared-slice-read-new-3 c = search needs
+
+new-requires : tie.Need-new-requires Inv-loop μ-loop
+new-requires c κs = search needs
+
+cap-requires : tie.Need-cap-requires Inv-loop μ-loop
+cap-requires c κs = search needs
+
+mul-rests : tie.Need-mul-rests Inv-loop μ-loop
+mul-rests c = search needs
+
+slice-write-rests : tie.Need-slice-write-rests Inv-loop μ-loop
+slice-write-rests c = search needs
+
+add-i : tie.Need-add-i Inv-loop μ-loop
+add-i c = search needs
+
+loop-less : tie.Need-loop-less Inv-loop μ-loop
+loop-less c = search needs
+
+loop-again : tie.Need-loop-again Inv-loop μ-loop
+loop-again c =
+    let h = c .before .before .before .before .before in
+    let a = h .before .before .before .before .before .before .args in
+    let i = h .before .loop .i in
+    let from = capsFrom (a .affected .now) (a .limited .now) (a .rooms .now) in
+    let one = c .cap .ensures ∙ ap (capAt (a .dots)) (c .before .new .ensures) in (
+      search needs,
+      search needs,
+      store-step _ _ (λ _. from i (a .dots)) (λ _. from (i + 1) (a .dots)) _ 0 _ (h .loop-test .taken)
+          (caps-step _ _ _ i (search needs) (search needs) (search needs) (a .dots) ∙ rw one) (h .before .loop .inv .2),
+    )
+
+same-length : tie.Need-same-length Inv-loop μ-loop
+same-length c = search needs
+
+returns : tie.Need-returns Inv-loop μ-loop
+returns c =
+    let a = c .before .before .before .before .before .before .args in
+    let i = c .before .loop .i in
+    store-end _ _ (λ _. capsFrom (a .affected .now) (a .limited .now) (a .rooms .now) i (a .dots)) _ (c .loop-test .left)
+    (caps-end (a .affected .now) (a .limited .now) (a .rooms .now) i (search needs) (a .dots)) (c .before .loop .inv .2)
+
+pub load-spec : {M : Type 1} → statement M
+load-spec =
+    tie.close
+    (tie.spec
+    Inv-loop
+    μ-loop
+    loop-holds
+    shared-slice-read-new
+    shared-slice-read-new-2
+    mul-new
+    shared-slice-read-new-3
+    new-requires
+    cap-requires
+    mul-rests
+    slice-write-rests
+    add-i
+    loop-less
+    loop-again
+    same-length
+    returns)

@@ -1,0 +1,183 @@
+-- The fill: handing out dots fairly below limits. This page follows the build paper's paragraph 'Fill' in its words and
+-- order, then the refusals of a fill called by itself. It assumes nothing of the code and it computes.
+use Prim.Native.Nat.{ℕ, zero, suc, _+_, _-_, _*_, _/_, min}
+use mathlib.Core.Bool.{Bool, true, false, cond, not, _&&_}
+use mathlib.Core.List.{List, [], _∷_, map}
+use lib.Dec.{ltb, leb, eqb}
+use lib.ListN.{length}
+use Rattle.laws.specs.Marks.{number}
+use Rattle.laws.specs.Runs.{runs}
+
+-- ---- Tracks
+
+-- A track's room: so many dots, or no limit, which is a case of its own and no number.
+pub data Room : Type 0 where
+  upTo : ℕ → Room
+  noLimit : Room
+
+pub record Track : Type 0 where
+  pub affected : Bool
+  pub room : Room
+  pub gain : ℕ
+
+-- The room that a call gives: where a track has no limit, its number is not read.
+abbrev pub roomOf : Bool → ℕ → Room
+roomOf true dots = upTo dots
+roomOf false dots = noLimit
+
+-- A track as a call gives it, before the first round.
+abbrev pub trackOf : Bool → Bool → ℕ → Track
+trackOf affected limited room = record { affected = affected; room = roomOf limited room; gain = 0 }
+
+unfoldable pub tracksOf : List Bool → List Bool → List ℕ → List Track
+tracksOf (a ∷ affected) (l ∷ limited) (r ∷ rooms) = trackOf a l r ∷ tracksOf affected limited rooms
+tracksOf (a ∷ affected) (l ∷ limited) [] = []
+tracksOf (a ∷ affected) [] rooms = []
+tracksOf [] limited rooms = []
+
+unfoldable pub gainsOf : List Track → List ℕ
+gainsOf [] = []
+gainsOf (t ∷ ts) = t .gain ∷ gainsOf ts
+
+-- ---- 'Affected tracks with room are open.'
+
+abbrev pub hasRoom : Room → Bool
+hasRoom (upTo dots) = ltb 0 dots
+hasRoom noLimit = true
+
+abbrev pub isOpen : Track → Bool
+isOpen t = t .affected && hasRoom (t .room)
+
+-- which tracks are open
+unfoldable pub opens : List Track → List Bool
+opens [] = []
+opens (t ∷ ts) = isOpen t ∷ opens ts
+
+-- ---- 'Let q be dots divided by open tracks, rounded down .. the smaller of q and the least room.'
+
+-- the smaller of two rooms
+abbrev pub lower : Room → Room → Room
+lower (upTo a) (upTo b) = upTo (min a b)
+lower (upTo a) noLimit = upTo a
+lower noLimit r = r
+
+-- the least room of the open tracks; no limit where none of them has one
+unfoldable pub leastRoom : List Track → Room
+leastRoom [] = noLimit
+leastRoom (t ∷ ts) = cond (isOpen t) (lower (t .room) (leastRoom ts)) (leastRoom ts)
+
+-- the smaller of so many dots and a room
+abbrev pub within : ℕ → Room → ℕ
+within q (upTo dots) = min q dots
+within q noLimit = q
+
+-- ---- 'One dot goes to each of the first open tracks.'
+
+-- Who takes the odd dots: of the tracks marked open, the first d. Nothing else says it.
+unfoldable pub oddTakers : ℕ → List Bool → List Bool
+oddTakers d [] = []
+oddTakers d (true ∷ os) = ltb 0 d ∷ oddTakers (d - 1) os
+oddTakers d (false ∷ os) = false ∷ oddTakers d os
+
+-- ---- A round
+
+-- a track takes k dots
+abbrev pub less : Room → ℕ → Room
+less (upTo dots) k = upTo (dots - k)
+less noLimit k = noLimit
+
+abbrev pub takes : ℕ → Track → Track
+takes k t = record { affected = t .affected; room = less (t .room) k; gain = t .gain + k }
+
+-- each marked track takes k dots
+unfoldable pub handOut : ℕ → List Bool → List Track → List Track
+handOut k (m ∷ ms) (t ∷ ts) = cond m (takes k t) t ∷ handOut k ms ts
+handOut k (m ∷ ms) [] = []
+handOut k [] ts = ts
+
+pub record Fill : Type 0 where
+  pub tracks : List Track
+  pub left : ℕ
+  pub rounds : ℕ
+
+abbrev pub fillOf : List Track → ℕ → ℕ → Fill
+fillOf ts left rounds = record { tracks = ts; left = left; rounds = rounds }
+
+-- dots divided by open tracks
+abbrev pub quotient : Fill → ℕ
+quotient f = f .left / number (opens (f .tracks))
+
+-- what each open track gets
+abbrev pub share : Fill → ℕ
+share f = within (quotient f) (leastRoom (f .tracks))
+
+-- 'If q is 0, one dot goes to each of the first open tracks and all ends. Else each open track gets the smaller of q and
+-- the least room. Each pass is one round.'
+unfoldable pub round : Fill → Fill
+round f =
+    cond (eqb (quotient f) 0)
+    (fillOf (handOut 1 (oddTakers (f .left) (opens (f .tracks))) (f .tracks)) 0 (f .rounds + 1))
+    (fillOf (handOut (share f) (opens (f .tracks)) (f .tracks)) (f .left - share f * number (opens (f .tracks))) (f .rounds + 1))
+
+-- 'While dots and open tracks remain'
+unfoldable pub more : Fill → Bool
+more f = ltb 0 (f .left) && ltb 0 (number (opens (f .tracks)))
+
+-- The fill. A round hands out a dot at least, so there are no more rounds than dots.
+unfoldable pub fill : ℕ → List Track → Fill
+fill dots ts = runs more round dots (fillOf ts dots 0)
+
+-- The fill of a call's own lists.
+abbrev pub fillLists : ℕ → List Bool → List Bool → List ℕ → Fill
+fillLists dots affected limited rooms = fill dots (tracksOf affected limited rooms)
+
+-- ---- The fill called by itself
+
+-- 'tracks 0 to 256 .. spaces 0 to 16,777,215'
+abbrev pub mostTracks : ℕ
+mostTracks = 256
+
+abbrev pub mostDots : ℕ
+mostDots = 16777215
+
+-- What a call tells, in the paper's numbers.
+pub data Told : Type 0 where
+  filled : (leftover rounds : ℕ) → Told
+  refused : (number place : ℕ) → Told
+
+-- What a call leaves: what it tells, and what then stands in the lent gains.
+pub record Outcome : Type 0 where
+  pub told : Told
+  pub gains : List ℕ
+
+abbrev pub outcome : Told → List ℕ → Outcome
+outcome told gains = record { told = told; gains = gains }
+
+-- the outcome of a fill that was not refused
+abbrev pub filledOutcome : Fill → Outcome
+filledOutcome f = outcome (filled (f .left) (f .rounds)) (gainsOf (f .tracks))
+
+-- 12 is given when 'a fill's lists, gains too, differ in length or exceed 256'.
+abbrev pub listsFit : ℕ → ℕ → ℕ → ℕ → Bool
+listsFit affected limited rooms gains = leb gains mostTracks && (eqb affected gains && (eqb limited gains && eqb rooms gains))
+
+-- 7 is given when 'a number is over its limit': a room that is given and over the space limit.
+abbrev pub roomOver : Room → Bool
+roomOver (upTo dots) = ltb mostDots dots
+roomOver noLimit = false
+
+-- the first track, affected or not, whose room is over; the number of tracks where there is none
+unfoldable pub firstOver : List Track → ℕ
+firstOver [] = 0
+firstOver (t ∷ ts) = cond (roomOver (t .room)) 0 (suc (firstOver ts))
+
+-- 12, then 7 for the dots, at place 0, or for a room, at 1 + track; a refusal leaves the gains as they were.
+unfoldable pub fillCall : ℕ → List Bool → List Bool → List ℕ → List ℕ → Outcome
+fillCall dots affected limited rooms gains =
+    cond (not (listsFit (length affected) (length limited) (length rooms) (length gains)))
+    (outcome (refused 12 0) gains)
+    (cond (ltb mostDots dots)
+    (outcome (refused 7 0) gains)
+    (cond (ltb (firstOver (tracksOf affected limited rooms)) (length gains))
+    (outcome (refused 7 (1 + firstOver (tracksOf affected limited rooms))) gains)
+    (filledOutcome (fillLists dots affected limited rooms))))

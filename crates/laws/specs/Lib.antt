@@ -1,0 +1,5 @@
+pub mod Tests
+pub mod Sums
+pub mod Marks
+pub mod Walk
+pub mod Runs

@@ -1,14 +1,19 @@
 -- The call, case by case as the code goes. Assumes nothing.
-use mathlib.Core.Path.{_≡_, refl, sym, ap, _∙_}
+use mathlib.Core.Path.{_≡_, refl, ap, ap₂}
 use mathlib.Core.Bool.{Bool, true, false, _&&_}
-use mathlib.Core.List.{List}
-use Prim.Native.Nat.{ℕ, _+_, _≤_, _<_}
+use mathlib.Core.List.{List, [], _∷_}
+use Prim.Native.Nat.{ℕ, suc, _+_, _≤_, _<_}
+use native.Mathlib.Omega.{arith}
 use lib.Dec.{ltb, leb, eqb}
-use lib.ListN.{length}
+use lib.ListN.{length, getD}
 use borrow.Author.Tests.{lt-ltb, le-ltb, leb-true, eqb-true}
-use Rattle.fill.specs.Rule.{tracksOf, mostDots, listsFit, firstOver, Outcome, outcome, filled, refused, filledOutcome, fillLists, fillCall}
-use Rattle.fill.specs.Rests.{caps, State, stateOf, fillRests, lost}
-use Rattle.fill.specs.Answer.{OneLength, ListsFit}
+use Rattle.fill.specs.Rule.{trackOf, tracksOf, mostDots, listsFit, firstOver, Outcome, outcome, filled, refused, filledOutcome, fillLists, fillCall}
+use Rattle.fill.specs.Rests.{caps, stateOf, fillRests, lost}
+use Rattle.fill.specs.Answer.{numberOf, placeOf, toldBy, ListsFit}
+use Rattle.fill.specs.declared.answer.Refusal.{Refusal}
+use Rattle.fill.specs.declared.answer.Refusal.the-variants.{Lists, Dots, Room}
+use Rattle.fill.specs.declared.answer.FillAnswer.{FillAnswer}
+use Rattle.fill.specs.declared.answer.FillAnswer.the-variants.{Filled, Refused}
 use Rattle.fill.proofs.Tied.{fill-agrees}
 
 and-left : (a b : Bool) → a && b ≡ true → a ≡ true
@@ -61,3 +66,42 @@ handed dots as′ ls rs cs xs ys left n p q r =
     let a = fill-agrees dots as′ ls rs in
     let s : fillRests dots (caps dots as′ ls rs) ≡ stateOf xs left n = rw p at q in
     rw (← a .gains, ← a .left, ← a .rounds, s, r)
+
+-- ---- the promise leaves one answer, and reads no room that is not given
+
+-- two answers that tell the same are the same
+refusal-of : (p q : Refusal) → numberOf p ≡ numberOf q → placeOf p ≡ placeOf q → p ≡ q
+refusal-of Lists Lists n e = refl
+refusal-of Lists Dots n e = absurd (omega arith)
+refusal-of Lists (Room t) n e = absurd (omega arith)
+refusal-of Dots Lists n e = absurd (omega arith)
+refusal-of Dots Dots n e = refl
+refusal-of Dots (Room t) n e = absurd (omega arith)
+refusal-of (Room s) Lists n e = absurd (omega arith)
+refusal-of (Room s) Dots n e = absurd (omega arith)
+refusal-of (Room s) (Room t) n e = let h : s ≡ t = omega arith in ap Room h
+
+pub answer-of-told : (a b : FillAnswer) → toldBy a ≡ toldBy b → a ≡ b
+answer-of-told (Filled l m) (Filled l′ m′) e = let p : l ≡ l′ = cc in let q : m ≡ m′ = cc in ap₂ Filled p q
+answer-of-told (Filled l m) (Refused q) e = cc
+answer-of-told (Refused p) (Filled l m) e = cc
+answer-of-told (Refused p) (Refused q) e = let n : numberOf p ≡ numberOf q = cc in let h : placeOf p ≡ placeOf q = cc in ap Refused (refusal-of p q n h)
+
+track-unread : (a l : Bool) (r s : ℕ) → (l ≡ true → r ≡ s) → trackOf a l r ≡ trackOf a l s
+track-unread a true r s h = ap (trackOf a true) (h refl)
+track-unread a false r s h = refl
+
+tracks-unread : (as′ ls : List Bool) (rs ss : List ℕ) → length rs ≡ length ss → ((i : ℕ) → getD ls i false ≡ true → getD rs i 0 ≡ getD ss i 0) → tracksOf as′ ls rs ≡ tracksOf as′ ls ss
+unfolding tracksOf
+tracks-unread (a ∷ as′) (l ∷ ls) (r ∷ rs) (s ∷ ss) e h = ap₂ _∷_ (track-unread a l r s (h 0)) (tracks-unread as′ ls rs ss (omega arith) (λ i. h (suc i)))
+tracks-unread (a ∷ as′) (l ∷ ls) (r ∷ rs) [] e h = absurd (omega arith)
+tracks-unread (a ∷ as′) (l ∷ ls) [] (s ∷ ss) e h = absurd (omega arith)
+tracks-unread (a ∷ as′) (l ∷ ls) [] [] e h = refl
+tracks-unread (a ∷ as′) [] rs ss e h = refl
+tracks-unread [] ls rs ss e h = refl
+
+-- calls that differ only in the rooms of tracks without a limit leave the same
+pub call-unread : (dots : ℕ) (as′ ls : List Bool) (rs ss gs : List ℕ) → length rs ≡ length ss → ((i : ℕ) → getD ls i false ≡ true → getD rs i 0 ≡ getD ss i 0)
+    → fillCall dots as′ ls rs gs ≡ fillCall dots as′ ls ss gs
+unfolding fillCall
+call-unread dots as′ ls rs ss gs e h = rw (e, tracks-unread as′ ls rs ss e h)

@@ -4,16 +4,15 @@ use mathlib.Core.Path.{_≡_, refl, sym, ap, _∙_, subst}
 use mathlib.Core.Logic.{_⊎_, inl, inr, ⊎-elim}
 use mathlib.Core.List.{List, [], _∷_}
 use mathlib.Core.Bool.{Bool, true, false, cond}
-use Prim.Native.Nat.{ℕ, zero, suc, _+_, _-_, _*_, _/_, _≤_, _<_, min, zero-le}
-use native.Mathlib.Nat.{le-refl, le-trans, min-le-left, min-le-right, mul-add, mul-one, mul-zero, zero-mul, sub-zero, lt-div-mul-add}
+use Prim.Native.Nat.{ℕ, zero, suc, _+_, _-_, _*_, _/_, _≤_, _<_, min}
+use native.Mathlib.Nat.{le-refl, le-trans, min-le-right, mul-add, mul-one, mul-zero, zero-mul, sub-zero, lt-div-mul-add}
 use native.Mathlib.Omega.{arith}
 use lib.Dec.{eqb}
 use lib.ListN.{length}
 use borrow.Author.Tests.{eqb-true}
 use Rattle.laws.specs.Marks.{bit, number}
 use Rattle.laws.specs.Sums.{sum}
-use Rattle.laws.specs.Runs.{runs, runs-keep, runs-done}
-use Rattle.fill.specs.Rule.{oddTakers}
+use Rattle.laws.specs.Runs.{runs-keep, runs-done}
 use Rattle.fill.specs.Rests.{openRests, lowered, leastRest, takeEach, openMarks, takeMarked, takeOdd, State, stateOf, shareOf, restRound, restMore, fillRests, lost}
 use Rattle.fill.proofs.Odd.{odd-number}
 use Rattle.fill.proofs.Marked.{Among, none, one, odd-among, odd-sum, marked-length}

@@ -5,3 +5,8 @@ pub mod Marked
 pub mod Level
 pub mod Tied
 pub mod Call
+pub mod Fair
+pub mod RoundCount
+pub mod Share
+pub mod Unique
+pub mod Demand

@@ -1,16 +1,16 @@
 -- Laws of `oddTakers`: who takes the odd dots. All else that is proved of the odd dots follows from these. Assumes nothing.
 use mathlib.Core.Path.{_≡_, refl, sym, ap, ap₂, _∙_}
-use mathlib.Core.Bool.{Bool, true, false, cond}
+use mathlib.Core.Bool.{Bool, true, false}
 use mathlib.Core.List.{List, [], _∷_}
-use Prim.Native.Nat.{ℕ, zero, suc, _+_, _-_, _≤_, _<_, min, zero-le}
-use native.Mathlib.Nat.{le-of-suc-le-suc, le-refl}
+use Prim.Native.Nat.{ℕ, zero, suc, _-_, _≤_, _<_, min}
+use native.Mathlib.Nat.{le-refl}
 use native.Mathlib.Omega.{arith}
 use lib.Dec.{ltb}
 use lib.ListN.{length, getD}
 use borrow.Author.Tests.{ltb-false, lt-ltb}
 use Rattle.laws.specs.Marks.{bit, number}
 use Rattle.fill.specs.Rule.{oddTakers}
-use Rattle.fill.specs.Rests.{openRests, openMarks, takeMarked, takeOdd}
+use Rattle.fill.specs.Rests.{openMarks, takeMarked, takeOdd}
 
 -- ---- what holds of any rule for the odd dots
 

@@ -1,16 +1,16 @@
 -- A round on the rests, as the code goes: what it takes, that it hands out a dot at least, and its turn in the loop.
 -- Assumes nothing.
 use mathlib.Core.Path.{_≡_, refl, sym, ap, _∙_}
-use mathlib.Core.Logic.{_⊎_, inl, inr, ⊎-elim}
+use mathlib.Core.Logic.{_⊎_, inl, inr}
 use mathlib.Core.List.{List, [], _∷_}
 use mathlib.Core.Bool.{Bool, true, false, cond, _&&_}
-use Prim.Native.Nat.{ℕ, zero, suc, _+_, _-_, _*_, _/_, _≤_, _<_, min, zero-le}
-use native.Mathlib.Nat.{le-refl, le-trans, lt-of-lt-of-le, mul-le-mul-right, mul-pos, div-mul-le-self, le-min, min-le-left}
+use Prim.Native.Nat.{ℕ, suc, _+_, _-_, _*_, _/_, _≤_, _<_, min}
+use native.Mathlib.Nat.{le-refl, le-trans, mul-le-mul-right, mul-pos, div-mul-le-self, le-min, min-le-left}
 use native.Mathlib.Omega.{arith}
 use lib.Dec.{ltb, eqb}
 use borrow.Author.Tests.{ltb-true, ltb-false, lt-ltb, le-ltb, eq-eqb, ne-eqb, eqb-true, eqb-false}
-use Rattle.laws.specs.Runs.{runs, runs-more, runs-stop}
-use Rattle.fill.specs.Rests.{openRests, lowered, leastRest, takeEach, takeOdd, State, stateOf, shareOf, restRound, restMore, fillRests}
+use Rattle.laws.specs.Runs.{runs, runs-more}
+use Rattle.fill.specs.Rests.{openRests, lowered, leastRest, takeEach, takeOdd, State, stateOf, shareOf, restRound, restMore}
 
 -- ---- the least room
 

@@ -1,21 +1,20 @@
 -- The fill on the rests is the published rule's fill: a track without a limit is one with room for all the dots.
 -- Assumes nothing.
-use mathlib.Core.Path.{_≡_, refl, sym, ap, ap₂, _∙_, subst}
-use mathlib.Core.Logic.{_⊎_, inl, inr, ⊎-elim}
+use mathlib.Core.Path.{_≡_, refl, sym, ap, ap₂, _∙_}
+use mathlib.Core.Logic.{_⊎_, inl, inr}
 use mathlib.Core.List.{List, [], _∷_}
 use mathlib.Core.Bool.{Bool, true, false, cond, _&&_}
-use Prim.Native.Nat.{ℕ, zero, suc, _+_, _-_, _*_, _/_, _≤_, _<_, min, zero-le}
+use Prim.Native.Nat.{ℕ, zero, suc, _+_, _-_, _*_, _/_, _≤_, _<_, min}
 use native.Mathlib.Nat.{le-refl, le-trans, div-le-self, mul-one, mul-le-mul-left, min-le-left}
 use native.Mathlib.Omega.{arith}
 use lib.Dec.{ltb, eqb}
 use borrow.Author.Tests.{ltb-true, lt-ltb, ne-eqb}
 use Rattle.laws.specs.Marks.{bit, number}
 use Rattle.laws.specs.Runs.{runs-tied}
-use Rattle.fill.specs.Rule.{Room, upTo, noLimit, Track, trackOf, tracksOf, gainsOf, hasRoom, isOpen, opens, lower, leastRoom, within, oddTakers, takes, handOut, Fill, fillOf, round, more, fill, fillLists}
+use Rattle.fill.specs.Rule.{Room, upTo, noLimit, Track, trackOf, tracksOf, gainsOf, hasRoom, opens, lower, leastRoom, within, oddTakers, takes, handOut, Fill, fillOf, round, more, fill, fillLists}
 use Rattle.fill.specs.Rests.{capOf, caps, openRests, lowered, leastRest, takeEach, openMarks, takeMarked, takeOdd, State, stateOf, shareOf, restRound, restMore, fillRests, lost}
-use Rattle.fill.proofs.Odd.{odd-number}
 use Rattle.fill.proofs.Marked.{Among, none, one, number-open, odd-among}
-use Rattle.fill.proofs.RestRounds.{lowered-le, least-le, more-left, more-open, share-le}
+use Rattle.fill.proofs.RestRounds.{lowered-le, more-left, more-open}
 use Rattle.fill.proofs.Level.{Below, share-below}
 
 -- the rest x of a track, where d dots are left
@@ -169,11 +168,12 @@ unfolding lost gainsOf
 lost-gains nil = refl
 lost-gains (tie {c = c} {x = x} {t = t} h g s) = let e : c - x ≡ t .gain = omega arith in ap₂ _∷_ e (lost-gains s)
 
--- the fill on the rests gives the rule's gains, leftover and rounds
+-- the fill on the rests gives the rule's gains, leftover and rounds, and ends where it ends
 pub record Agree (cs : List ℕ) (s : State) (f : Fill) : Type 0 where
   pub gains : lost cs (s .rests) ≡ gainsOf (f .tracks)
   pub left : s .left ≡ f .left
   pub rounds : s .rounds ≡ f .rounds
+  pub more : more f ≡ restMore s
 
 pub fill-agrees : (dots : ℕ) (as′ ls : List Bool) (rs : List ℕ) → Agree (caps dots as′ ls rs) (fillRests dots (caps dots as′ ls rs)) (fillLists dots as′ ls rs)
 unfolding fillRests fill
@@ -182,4 +182,4 @@ fill-agrees dots as′ ls rs =
     let v =
     runs-tied restMore restRound more round (Same cs) (more-same cs) (λ s f e. round-same cs s f e) dots (stateOf cs dots 0) (fillOf (tracksOf as′ ls rs) dots 0)
     (record { left = refl; rounds = refl; tied = start-tied dots as′ ls rs }) in
-    record { gains = lost-gains (v .tied); left = v .left; rounds = v .rounds }
+    record { gains = lost-gains (v .tied); left = v .left; rounds = v .rounds; more = more-same cs _ _ v }

@@ -1,12 +1,12 @@
 -- The code's values in the words of the rule: its answer by the paper's numbers, its tracks, and what its survey finds.
 -- Assumes nothing.
 use Prim.Native.Nat.{ℕ, _+_, _≤_}
-use mathlib.Core.Path.{_≡_}
 use mathlib.Core.Bool.{Bool}
 use mathlib.Core.List.{List}
 use lib.ListN.{length}
 use Rattle.fill.specs.Rule.{roomOf, roomOver, mostTracks, Told, filled, refused, Outcome, outcome}
 use Rattle.fill.specs.Rests.{capOf, openRests, leastRest}
+use Rattle.fill.specs.Demand.{OneLength}
 use Rattle.fill.specs.declared.answer.Refusal.{Refusal}
 use Rattle.fill.specs.declared.answer.Refusal.the-variants.{Lists, Dots, Room}
 use Rattle.fill.specs.declared.answer.FillAnswer.{FillAnswer}
@@ -47,12 +47,6 @@ capAt dots t = capOf dots (t .affected) (t .limited) (t .room)
 -- what the walks over the rests find
 abbrev pub foundIn : ℕ → List ℕ → Found
 foundIn most xs = record { count = openRests xs; least = leastRest most xs }
-
--- three lists as long as a fourth
-pub record OneLength (as′ ls : List Bool) (rs gs : List ℕ) : Type 0 where
-  pub affected : length as′ ≡ length gs
-  pub limited : length ls ≡ length gs
-  pub rooms : length rs ≡ length gs
 
 -- the lists of a call that is not refused by 12
 pub record ListsFit (as′ ls : List Bool) (rs gs : List ℕ) : Type 0 where

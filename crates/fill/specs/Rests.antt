@@ -1,8 +1,8 @@
 -- The fill on bare numbers, as the code's walks go. A rest is the room that a track has left: 0 for a track that is not
 -- affected, and all the dots for one without a limit, since it never takes more. Nobody has to believe this page:
 -- proofs/Tied shows that it gives the published rule's fill. Assumes nothing.
-use Prim.Native.Nat.{ℕ, zero, suc, _+_, _-_, _*_, _/_, min}
-use mathlib.Core.Bool.{Bool, true, false, cond, _&&_}
+use Prim.Native.Nat.{ℕ, _+_, _-_, _*_, _/_, min}
+use mathlib.Core.Bool.{Bool, cond, _&&_}
 use mathlib.Core.List.{List, [], _∷_}
 use lib.Dec.{ltb, eqb}
 use Rattle.laws.specs.Marks.{bit}

@@ -1,8 +1,8 @@
 -- The fill: handing out dots fairly below limits. This page follows the build paper's paragraph 'Fill' in its words and
 -- order, then the refusals of a fill called by itself. It assumes nothing of the code and it computes.
-use Prim.Native.Nat.{ℕ, zero, suc, _+_, _-_, _*_, _/_, min}
+use Prim.Native.Nat.{ℕ, suc, _+_, _-_, _*_, _/_, min}
 use mathlib.Core.Bool.{Bool, true, false, cond, not, _&&_}
-use mathlib.Core.List.{List, [], _∷_, map}
+use mathlib.Core.List.{List, [], _∷_}
 use lib.Dec.{ltb, leb, eqb}
 use lib.ListN.{length}
 use Rattle.laws.specs.Marks.{number}

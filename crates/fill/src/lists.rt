@@ -4,7 +4,7 @@ use crate::rests::less;
 ghost use mathlib.Core.Path.{_≡_};
 ghost use Rattle.fill.specs.Rule.{tracksOf, firstOver, listsFit};
 ghost use Rattle.fill.specs.Rests.{caps, lost};
-ghost use Rattle.fill.specs.Answer.{OneLength};
+ghost use Rattle.fill.specs.Demand.{OneLength};
 
 // The four lists are of one length, and no board has more tracks.
 pub fn lists_fit(affected: usize, limited: usize, rooms: usize, gains: usize) -> bool

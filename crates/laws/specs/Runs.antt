@@ -1,6 +1,6 @@
 -- Rounds while there are more of them, and what holds of every such loop. `fuel` bounds the rounds, so that the rule
 -- computes; `runs-done` shows when it is enough. Assumes nothing.
-use mathlib.Core.Path.{_≡_, refl, sym, ap, _∙_, subst}
+use mathlib.Core.Path.{_≡_, refl, sym, _∙_, subst}
 use mathlib.Core.Logic.{⊎-elim}
 use mathlib.Core.Bool.{Bool, true, false}
 use Prim.Native.Nat.{ℕ, zero, suc, _+_, _≤_, _<_}

@@ -2,7 +2,7 @@
 use borrow.Author.Needs.{needs}
 use borrow.Author.Tests.{not-true, not-false}
 use native.Mathlib.Nat.{lt-of-lt-of-le}
-use mathlib.Core.Path.{_≡_, refl, sym, ap, _∙_}
+use mathlib.Core.Path.{refl, sym, ap, _∙_}
 use lib.Dec.{ltb}
 use Rattle.fill.specs.Rule.{mostDots}
 use Rattle.fill.proofs.Call.{lists-fit, call-lists, call-dots, call-room, call-filled}

@@ -1,12 +1,10 @@
 -- `first_over` meets its contract. The loop's invariant: the tracks passed are not over. Assumes nothing.
 use Rattle.fill.specs.Answer.{overAt}
 use borrow.Author.Needs.{needs}
-use mathlib.Core.Path.{_≡_, refl, sym, ap, _∙_}
-use mathlib.Core.Bool.{Bool, true, false}
-use mathlib.Core.List.{_∷_, _++_}
-use Prim.Native.Nat.{ℕ, suc, _+_, _-_, _≤_}
+use mathlib.Core.Path.{_≡_, sym, ap, _∙_}
+use Prim.Native.Nat.{_+_, _-_, _≤_}
 use native.Mathlib.Omega.{arith}
-use lib.ListN.{length, take, drop}
+use lib.ListN.{length}
 use Rattle.fill.specs.Rule.{tracksOf, firstOver}
 use Rattle.fill.proofs.Turns.{tracksFrom, over-hit, over-miss, over-end}
 use Rattle.fill.proofs.lists.first_over.Statement.{statement}

@@ -1,5 +1,4 @@
 -- `lists_fit` meets its contract: each answer follows from the tests that led to it. Assumes nothing.
-use borrow.Author.Needs.{needs}
 use borrow.Author.Tests.{le-leb, lt-leb, eq-eqb, ne-eqb}
 use Rattle.fill.proofs.lists.lists_fit.Statement.{statement}
 use Rattle.fill.proofs.lists.lists_fit.Tie as tie

@@ -1,11 +1,9 @@
 -- `load` meets its contract. The loop's invariant: the caps written, and those of the tracks still to come, are all. Assumes nothing.
 use borrow.Author.Needs.{needs}
-use mathlib.Core.Path.{_≡_, refl, sym, ap, _∙_}
-use mathlib.Core.Bool.{Bool, true, false}
-use mathlib.Core.List.{_∷_, _++_}
-use Prim.Native.Nat.{ℕ, suc, _+_, _-_, _≤_}
-use native.Mathlib.Omega.{arith}
-use lib.ListN.{length, take, drop}
+use mathlib.Core.Path.{_≡_, ap, _∙_}
+use mathlib.Core.List.{_++_}
+use Prim.Native.Nat.{_+_, _-_, _≤_}
+use lib.ListN.{length, take}
 use Rattle.laws.specs.Walk.{store-step, store-end}
 use Rattle.fill.specs.Rests.{caps}
 use Rattle.fill.specs.Answer.{capAt}

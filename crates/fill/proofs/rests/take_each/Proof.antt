@@ -1,8 +1,8 @@
 -- `take_each` meets its contract. The loop's invariant: what is written, and what the walk makes of the rest, are the answer. Assumes nothing.
 use borrow.Author.Needs.{needs}
-use mathlib.Core.Path.{_≡_, refl, ap, _∙_}
-use mathlib.Core.List.{_∷_, _++_}
-use Prim.Native.Nat.{_+_, _-_, _≤_}
+use mathlib.Core.Path.{_≡_, refl}
+use mathlib.Core.List.{_++_}
+use Prim.Native.Nat.{_-_, _≤_}
 use lib.ListN.{length, take, drop}
 use Rattle.laws.specs.Walk.{store-step, store-end}
 use Rattle.fill.specs.Rests.{takeEach}

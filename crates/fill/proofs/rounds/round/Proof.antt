@@ -1,7 +1,7 @@
 -- `round` meets its contract: its two ends are the round's two cases. Assumes nothing.
 use borrow.Author.Needs.{needs}
-use mathlib.Core.Path.{_≡_, refl, sym, ap, _∙_}
-use Prim.Native.Nat.{ℕ, _*_, _/_, _≤_, min}
+use mathlib.Core.Path.{_≡_, ap, _∙_}
+use Prim.Native.Nat.{_/_, min}
 use native.Mathlib.Nat.{lt-of-le-of-lt}
 use Rattle.fill.specs.Rests.{openRests, leastRest, shareOf}
 use Rattle.fill.specs.declared.rests.Found.{Found}

@@ -1,6 +1,5 @@
 -- `Refusal::place` meets its contract. Assumes nothing.
 use borrow.Author.Needs.{needs}
-use native.Mathlib.Omega.{arith}
 use Rattle.fill.proofs.answer.Refusal.place.Statement.{statement}
 use Rattle.fill.proofs.answer.Refusal.place.Tie as tie
 

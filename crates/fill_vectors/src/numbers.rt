@@ -1,0 +1,127 @@
+// One number or one mark of the text, after the blanks and line ends before it.
+ghost use Prim.Native.Nat.{_≤_, _<_};
+ghost use lib.ListN.{length};
+ghost use Rattle.fill_vectors.specs.Reading.{Onward};
+use crate::cursor::Cursor;
+use crate::cursor::Fault;
+use crate::cursor::going;
+use crate::cursor::stopped;
+use crate::spans::blanks_end;
+use crate::spans::digits_end;
+use crate::spans::is_blank;
+
+// One more than the largest number: where a longer number is held while its digits are read.
+const TOO_LARGE: u64 = 4294967296;
+
+pub struct Number {
+    pub value: u32,
+    pub next: Cursor,
+}
+
+pub struct Mark {
+    pub is_set: bool,
+    pub next: Cursor,
+}
+
+fn wide(byte: u8) -> u64
+    ensures { λ r. ⌜ r < 256 ⌝ }
+{
+    byte as u64
+}
+
+// The number with one digit more, held at TOO_LARGE. The low four bits of a digit are its value.
+fn with_digit(value: u64, digit: u8) -> u64
+    requires { ⌜ value ≤ 4294967296 ⌝ }
+    ensures { λ r. ⌜ r ≤ 4294967296 ⌝ }
+{
+    let longer = value * 10 + wide(digit & 15);
+    if longer < TOO_LARGE {
+        longer
+    } else {
+        TOO_LARGE
+    }
+}
+
+fn decimal(digits: &[u8]) -> u64 {
+    let mut value: u64 = 0;
+    let mut i = 0;
+    while i < digits.len() {
+        value = with_digit(value, digits[i]);
+        i += 1;
+    }
+    value
+}
+
+// A number ends at a blank, a line end or the end of the text.
+fn is_end(text: &[u8], at: usize) -> bool {
+    if at < text.len() {
+        is_blank(text[at])
+    } else {
+        true
+    }
+}
+
+// What is wrong where no digit stands.
+fn missing(text: &[u8], at: usize) -> Fault {
+    if at < text.len() {
+        Fault::Number
+    } else {
+        Fault::Early
+    }
+}
+
+pub fn read_number(text: &[u8], from: Cursor) -> Number
+    requires { ⌜ from .at ≤ length (now text) ⌝ }
+    ensures { λ r. ⌜ Onward (now (text .entry)) (from .at) (r .next .at) ⌝ }
+{
+    if !from.is_going() {
+        return Number {
+            value: 0,
+            next: from,
+        };
+    }
+    let start = blanks_end(text, from.at);
+    let end = digits_end(text, start);
+    if start == end {
+        return Number {
+            value: 0,
+            next: stopped(start, missing(text, start)),
+        };
+    }
+    if !is_end(text, end) {
+        return Number {
+            value: 0,
+            next: stopped(end, Fault::Number),
+        };
+    }
+    let value = decimal(&text[start..end]);
+    if value >= TOO_LARGE {
+        return Number {
+            value: 0,
+            next: stopped(start, Fault::Large),
+        };
+    }
+    Number {
+        value: value as u32,
+        next: going(end),
+    }
+}
+
+pub fn read_mark(text: &[u8], from: Cursor) -> Mark
+    requires { ⌜ from .at ≤ length (now text) ⌝ }
+    ensures { λ r. ⌜ Onward (now (text .entry)) (from .at) (r .next .at) ⌝ }
+{
+    let start = blanks_end(text, from.at);
+    let read = read_number(text, from);
+    let next = read.next;
+    if read.value > 1 {
+        return Mark {
+            is_set: false,
+            next: stopped(start, Fault::Mark),
+        };
+    }
+    Mark {
+        is_set: read.value == 1,
+        next,
+    }
+}

@@ -139,6 +139,12 @@ def check_fill(name, dots, affected, limited, rooms, gains, left, rounds):
         assert not (a and l) or g <= r, name
         full = full and (not a or (l and g == r))
     assert left == 0 or full, name
+    for track, g in enumerate(gains):
+        if affected[track]:
+            quotient = dots // sum(affected)
+            assert g >= (min(rooms[track], quotient) if limited[track] else quotient), name
+            if not limited[track] or g < rooms[track]:
+                assert all(h <= g + (other < track) for other, h in enumerate(gains)), name
     with_room = sum(1 for a, l, r in zip(affected, limited, rooms) if a and (not l or r > 0))
     assert rounds <= with_room + 1, name
 

@@ -10,8 +10,7 @@ mod rounds;
 
 pub use answer::FillAnswer;
 pub use answer::Refusal;
-pub use kinds::Space;
-pub use kinds::Track;
+use kinds::Space;
 use rounds::Rounds;
 ghost use mathlib.Core.Path.{_≡_};
 ghost use Rattle.fill.specs.Rule.{filled, outcome, filledOutcome, fillLists, fillCall};

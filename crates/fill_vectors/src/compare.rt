@@ -1,6 +1,9 @@
 // Whether what the fill gave is what the case wants.
 ghost use mathlib.Core.Path.{_≡_};
 ghost use mathlib.Core.Bool.{true};
+ghost use Rattle.fill.specs.Rule.{outcome, fillCall};
+ghost use Rattle.fill.specs.Answer.{toldBy};
+ghost use Rattle.fill_vectors.specs.Wanted.{toldAs};
 use fill::FillAnswer;
 
 // A refusal's number and place, or a fill's leftover and rounds.
@@ -11,18 +14,33 @@ pub struct Wanted {
 }
 
 impl Wanted {
-    fn is_met_by(self, answer: FillAnswer) -> bool {
+    fn is_met_by(self, answer: FillAnswer) -> bool
+        ensures { λ r. ⌜ (r ≡ true → toldBy answer ≡ toldAs (self .«is_refusal») (self .first) (self .second)) ⌝ }
+    {
         match answer {
             FillAnswer::Filled { leftover, rounds } => {
-                !self.is_refusal && self.first == leftover && self.second == rounds
+                if self.is_refusal {
+                    return false;
+                }
+                if self.first != leftover {
+                    return false;
+                }
+                self.second == rounds
             }
             FillAnswer::Refused(refusal) => {
-                self.is_refusal && self.first == refusal.number() && self.second == refusal.place()
+                if !self.is_refusal {
+                    return false;
+                }
+                if self.first != refusal.number() {
+                    return false;
+                }
+                self.second == refusal.place()
             }
         }
     }
 
-    // Whether the fill gives this answer and leaves the gains as `after`.
+    // Whether the fill gives this answer and leaves the gains as `after`. A case that agrees is the published rule's own
+    // answer.
     pub fn is_given(
         self,
         dots: u32,
@@ -32,12 +50,13 @@ impl Wanted {
         gains: &mut [u32],
         after: &[u32],
     ) -> bool
-        ensures { λ r. ⌜ (r ≡ true → now (gains .exit) ≡ now (after .entry)) ⌝ }
+        ensures { λ r. ⌜ (r ≡ true → outcome (toldAs (self .«is_refusal») (self .first) (self .second)) (now (after .entry)) ≡ fillCall dots (now (affected .entry)) (now (limited .entry)) (now (rooms .entry)) (now (gains .entry))) ⌝ }
     {
         let answer = fill::fill(dots, affected, limited, rooms, gains);
-        let has_answer = self.is_met_by(answer);
-        let has_gains = same(gains, after);
-        has_answer && has_gains
+        if !self.is_met_by(answer) {
+            return false;
+        }
+        same(gains, after)
     }
 }
 

@@ -1,5 +1,8 @@
--- `Wanted::is_given` meets its contract: where it answers true, `same` answered true. Assumes nothing.
+-- `Wanted::is_given` meets its contract: where it answers true, answer and gains are those of the fill. Assumes nothing.
 use borrow.Author.Needs.{needs}
+use borrow.Author.Tests.{not-false}
+use mathlib.Core.Path.{refl, sym, ap₂, _∙_}
+use Rattle.fill.specs.Rule.{outcome}
 use Rattle.fill_vectors.proofs.Never.{never}
 use Rattle.fill_vectors.proofs.compare.Wanted.is_given.Statement.{statement}
 use Rattle.fill_vectors.proofs.compare.Wanted.is_given.Tie as tie
@@ -10,20 +13,20 @@ fill-requires c κs = search needs
 is-met-by-requires : tie.Need-is-met-by-requires
 is-met-by-requires c κs = search needs
 
-same-requires : tie.Need-same-requires
-same-requires c κs = search needs
-
 same-length : tie.Need-same-length
 same-length c = search needs
 
 returns : tie.Need-returns
-returns c = search needs
+returns c = λ p. never p refl
+
+same-requires : tie.Need-same-requires
+same-requires c κs = search needs
 
 same-length-2 : tie.Need-same-length-2
 same-length-2 c = search needs
 
 returns-2 : tie.Need-returns-2
-returns-2 c = λ p. never p (c .if1 .left)
+returns-2 c = λ p. ap₂ outcome (sym (c .before .before .before .is-met-by .ensures (not-false _ (c .before .before .if1 .left)))) (sym (c .same .ensures .0 p)) ∙ c .before .before .before .before .before .before .fill .ensures
 
 pub is-given-spec : {M : Type 1} → statement M
 is-given-spec =
@@ -31,8 +34,8 @@ is-given-spec =
     (tie.spec
     fill-requires
     is-met-by-requires
-    same-requires
     same-length
     returns
+    same-requires
     same-length-2
     returns-2)

@@ -38,7 +38,7 @@ pub record OneBehind (gains : List ℕ) (i j : ℕ) : Type 0 where
   pub near : getD gains j 0 ≤ getD gains i 0 + 1
   pub behind : getD gains i 0 < getD gains j 0 → j < i
 
--- 'gains plus leftover are the dots'
+-- Sum: no dot is lost and none is made.
 abbrev pub SumHolds : ℕ → List ℕ → ℕ → Type 0
 SumHolds dots gains leftover = sum gains + leftover ≡ dots
 
@@ -47,15 +47,15 @@ abbrev pub roomAt : List Bool → List ℕ → ℕ → Room
 roomAt limited rooms i = roomOf (getD limited i false) (getD rooms i 0)
 
 module _ (affected limited : List Bool) (rooms gains : List ℕ) where
-  -- 'no gain exceeds its room; an unaffected track gains nothing'
+  -- Room: every gain is one that its track is allowed.
   abbrev pub RoomHolds : Type 0
   RoomHolds = (i : ℕ) → i < length gains → Allowed (getD affected i false) (roomAt limited rooms i) (getD gains i 0)
 
-  -- 'dots are left only when every affected track is full'
+  -- Leftover: where dots stay over, every affected track is full.
   abbrev pub LeftoverHolds : ℕ → Type 0
   LeftoverHolds leftover = 0 < leftover → (i : ℕ) → i < length gains → getD affected i false ≡ true → Full (getD gains i 0) (roomAt limited rooms i)
 
-  -- 'an affected track short of its limit is at most one dot behind any other, and then only behind an earlier one'
+  -- Fairness: an affected track that could take more is one dot behind another at most, and then an earlier one.
   abbrev pub FairnessHolds : Type 0
   FairnessHolds =
       (i j : ℕ) → i < length gains → j < length gains → getD affected i false ≡ true → Short (getD gains i 0) (roomAt limited rooms i) → OneBehind gains i j

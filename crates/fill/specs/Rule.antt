@@ -39,7 +39,16 @@ unfoldable pub gainsOf : List Track → List ℕ
 gainsOf [] = []
 gainsOf (t ∷ ts) = t .gain ∷ gainsOf ts
 
--- ---- 'Affected tracks with room are open.'
+-- A fill under way: its tracks, the dots that are left, and the rounds so far.
+pub record Fill : Type 0 where
+  pub tracks : List Track
+  pub left : ℕ
+  pub rounds : ℕ
+
+abbrev pub fillOf : List Track → ℕ → ℕ → Fill
+fillOf ts left rounds = record { tracks = ts; left = left; rounds = rounds }
+
+-- ---- Open tracks: those that are affected and have room
 
 abbrev pub hasRoom : Room → Bool
 hasRoom (upTo dots) = ltb 0 dots
@@ -53,7 +62,23 @@ unfoldable pub opens : List Track → List Bool
 opens [] = []
 opens (t ∷ ts) = isOpen t ∷ opens ts
 
--- ---- 'Let q be dots divided by open tracks, rounded down .. the smaller of q and the least room.'
+-- There is another round while there are dots and open tracks.
+unfoldable pub more : Fill → Bool
+more f = ltb 0 (f .left) && ltb 0 (number (opens (f .tracks)))
+
+-- the paper's q: dots divided by open tracks, rounded down
+abbrev pub quotient : Fill → ℕ
+quotient f = f .left / number (opens (f .tracks))
+
+-- ---- The odd dots
+
+-- Who takes d odd dots, one each: of the tracks marked open, the first d. Nothing else says it.
+unfoldable pub oddTakers : ℕ → List Bool → List Bool
+oddTakers d [] = []
+oddTakers d (true ∷ os) = ltb 0 d ∷ oddTakers (d - 1) os
+oddTakers d (false ∷ os) = false ∷ oddTakers d os
+
+-- ---- The share
 
 -- the smaller of two rooms
 abbrev pub lower : Room → Room → Room
@@ -71,13 +96,9 @@ abbrev pub within : ℕ → Room → ℕ
 within q (upTo dots) = min q dots
 within q noLimit = q
 
--- ---- 'One dot goes to each of the first open tracks.'
-
--- Who takes the odd dots: of the tracks marked open, the first d. Nothing else says it.
-unfoldable pub oddTakers : ℕ → List Bool → List Bool
-oddTakers d [] = []
-oddTakers d (true ∷ os) = ltb 0 d ∷ oddTakers (d - 1) os
-oddTakers d (false ∷ os) = false ∷ oddTakers d os
+-- what each open track gets: the smaller of q and the least room
+abbrev pub share : Fill → ℕ
+share f = within (quotient f) (leastRoom (f .tracks))
 
 -- ---- A round
 
@@ -95,35 +116,16 @@ handOut k (m ∷ ms) (t ∷ ts) = cond m (takes k t) t ∷ handOut k ms ts
 handOut k (m ∷ ms) [] = []
 handOut k [] ts = ts
 
-pub record Fill : Type 0 where
-  pub tracks : List Track
-  pub left : ℕ
-  pub rounds : ℕ
-
-abbrev pub fillOf : List Track → ℕ → ℕ → Fill
-fillOf ts left rounds = record { tracks = ts; left = left; rounds = rounds }
-
--- dots divided by open tracks
-abbrev pub quotient : Fill → ℕ
-quotient f = f .left / number (opens (f .tracks))
-
--- what each open track gets
-abbrev pub share : Fill → ℕ
-share f = within (quotient f) (leastRoom (f .tracks))
-
--- 'If q is 0, one dot goes to each of the first open tracks and all ends. Else each open track gets the smaller of q and
--- the least room. Each pass is one round.'
+-- One pass. Where q is 0 the odd dots go out, and none are left; else every open track gets the share.
 unfoldable pub round : Fill → Fill
 round f =
     cond (eqb (quotient f) 0)
     (fillOf (handOut 1 (oddTakers (f .left) (opens (f .tracks))) (f .tracks)) 0 (f .rounds + 1))
     (fillOf (handOut (share f) (opens (f .tracks)) (f .tracks)) (f .left - share f * number (opens (f .tracks))) (f .rounds + 1))
 
--- 'While dots and open tracks remain'
-unfoldable pub more : Fill → Bool
-more f = ltb 0 (f .left) && ltb 0 (number (opens (f .tracks)))
+-- ---- The fill
 
--- The fill. A round hands out a dot at least, so there are no more rounds than dots.
+-- Rounds while there are more. A round hands out a dot at least, so there are no more rounds than dots.
 unfoldable pub fill : ℕ → List Track → Fill
 fill dots ts = runs more round dots (fillOf ts dots 0)
 
@@ -133,7 +135,7 @@ fillLists dots affected limited rooms = fill dots (tracksOf affected limited roo
 
 -- ---- The fill called by itself
 
--- 'tracks 0 to 256 .. spaces 0 to 16,777,215'
+-- the most tracks of a board, and the most dots of a space or a room
 abbrev pub mostTracks : ℕ
 mostTracks = 256
 
@@ -157,11 +159,11 @@ outcome told gains = record { told = told; gains = gains }
 abbrev pub filledOutcome : Fill → Outcome
 filledOutcome f = outcome (filled (f .left) (f .rounds)) (gainsOf (f .tracks))
 
--- 12 is given when 'a fill's lists, gains too, differ in length or exceed 256'.
+-- Unless 12: the four lists are of one length, and not too long. The numbers are their lengths.
 abbrev pub listsFit : ℕ → ℕ → ℕ → ℕ → Bool
 listsFit affected limited rooms gains = leb gains mostTracks && (eqb affected gains && (eqb limited gains && eqb rooms gains))
 
--- 7 is given when 'a number is over its limit': a room that is given and over the space limit.
+-- A room that is given can be over the space limit, one that is missing cannot.
 abbrev pub roomOver : Room → Bool
 roomOver (upTo dots) = ltb mostDots dots
 roomOver noLimit = false

@@ -7,28 +7,39 @@ use mathlib.Core.List.{List, [], _∷_}
 use lib.Dec.{eqb}
 use Rattle.laws.specs.Marks.{number}
 use Rattle.laws.specs.Runs.{runs}
-use Rattle.fill.specs.Rule.{Room, Track, gainsOf, opens, leastRoom, oddTakers, handOut, Fill, round, more, fill}
+use Rattle.fill.specs.Rule.{Room, upTo, noLimit, Track, gainsOf, opens, leastRoom, oddTakers, handOut, Fill, round, more, fill}
 
--- a track that the fill affects, with this room; and one that it does not
-abbrev pub takes : Room → Track
-takes room = record { affected = true; room = room; gain = 0 }
+-- an affected track with this room, and one that is not affected
+abbrev pub track : Room → Track
+track room = record { affected = true; room = room; gain = 0 }
 
-abbrev pub waits : Room → Track
-waits room = record { affected = false; room = room; gain = 0 }
+abbrev pub idle : Room → Track
+idle room = record { affected = false; room = room; gain = 0 }
 
 -- A row: the dots and the tracks, then the gains, the leftover and the rounds that the paper marks.
 pub data Example : Type 0 where
   filling : (dots : ℕ) (tracks : List Track) (gains : List ℕ) (left rounds : ℕ) → Example
 
+abbrev pub w1 : Example
+w1 = filling 7 (track (upTo 10) ∷ track (upTo 10) ∷ track (upTo 10) ∷ []) (3 ∷ 2 ∷ 2 ∷ []) 0 2
+
+abbrev pub w2 : Example
+w2 = filling 10 (track (upTo 1) ∷ track (upTo 5) ∷ track noLimit ∷ []) (1 ∷ 5 ∷ 4 ∷ []) 0 3
+
+abbrev pub w3 : Example
+w3 = filling 9 (track (upTo 2) ∷ track (upTo 3) ∷ []) (2 ∷ 3 ∷ []) 4 2
+
+abbrev pub w4 : Example
+w4 = filling 0 (track (upTo 4) ∷ track noLimit ∷ []) (0 ∷ 0 ∷ []) 0 0
+
+abbrev pub w5 : Example
+w5 = filling 5 (idle (upTo 4) ∷ idle noLimit ∷ []) (0 ∷ 0 ∷ []) 5 0
+
+abbrev pub w6 : Example
+w6 = filling 3 (track (upTo 0) ∷ track (upTo 4) ∷ []) (0 ∷ 3 ∷ []) 0 1
+
 abbrev pub table : List Example
-table =
-    filling 7 (takes (Room.upTo 10) ∷ takes (Room.upTo 10) ∷ takes (Room.upTo 10) ∷ []) (3 ∷ 2 ∷ 2 ∷ []) 0 2
-    ∷ filling 10 (takes (Room.upTo 1) ∷ takes (Room.upTo 5) ∷ takes Room.noLimit ∷ []) (1 ∷ 5 ∷ 4 ∷ []) 0 3
-    ∷ filling 9 (takes (Room.upTo 2) ∷ takes (Room.upTo 3) ∷ []) (2 ∷ 3 ∷ []) 4 2
-    ∷ filling 0 (takes (Room.upTo 4) ∷ takes Room.noLimit ∷ []) (0 ∷ 0 ∷ []) 0 0
-    ∷ filling 5 (waits (Room.upTo 4) ∷ waits Room.noLimit ∷ []) (0 ∷ 0 ∷ []) 5 0
-    ∷ filling 3 (takes (Room.upTo 0) ∷ takes (Room.upTo 4) ∷ []) (0 ∷ 3 ∷ []) 0 1
-    ∷ []
+table = w1 ∷ w2 ∷ w3 ∷ w4 ∷ w5 ∷ w6 ∷ []
 
 abbrev pub sameNumbers : List ℕ → List ℕ → Bool
 sameNumbers [] [] = true

@@ -45,7 +45,7 @@ pub fn fill(
     }
 }
 
-// The fill of lists that fit. A track without a limit has room for all the dots, which is more than it can take.
+// The fill of lists that fit: each track's rest is loaded, the rounds are run, and what each rest lost is its gain.
 fn hand_out(
     dots: u32,
     affected: &[bool],

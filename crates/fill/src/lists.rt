@@ -6,7 +6,7 @@ ghost use Rattle.fill.specs.Rule.{tracksOf, firstOver, listsFit};
 ghost use Rattle.fill.specs.Rests.{caps, lost};
 ghost use Rattle.fill.specs.Demand.{OneLength};
 
-// The four lists are of one length, and no board has more tracks.
+// The four lengths are one, and no more than a board has tracks.
 pub fn lists_fit(affected: usize, limited: usize, rooms: usize, gains: usize) -> bool
     ensures { λ r. ⌜ r ≡ listsFit affected limited rooms gains ⌝ }
 {

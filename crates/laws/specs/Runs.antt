@@ -8,13 +8,14 @@ use native.Mathlib.Nat.{le-of-suc-le-suc, not-suc-le-zero}
 use native.Mathlib.Omega.{arith}
 use Rattle.laws.specs.Tests.{true-or-false}
 
+-- while there are more: a round
 module _ {S : Type 0} (more : S → Bool) (round : S → S) where
-  -- while there are more: a round
   unfoldable pub runs : ℕ → S → S
   runs zero s = s
   runs (suc fuel) s = elim (more s) [ true ↦ runs fuel (round s) | false ↦ s ]
 
-  -- n rounds, whatever there is
+-- n rounds, whatever there is
+module _ {S : Type 0} (round : S → S) where
   unfoldable pub passes : ℕ → S → S
   passes zero s = s
   passes (suc n) s = passes n (round s)
@@ -51,8 +52,8 @@ module _ {S : Type 0} (more : S → Bool) (round : S → S) where
 
 -- t is what n rounds make of s, and before each of them there were more
 pub record Passed {S : Type 0} (more : S → Bool) (round : S → S) (s t : S) (n : ℕ) : Type 0 where
-  pub is : t ≡ passes more round n s
-  pub each : (m : ℕ) → m < n → more (passes more round m s) ≡ true
+  pub is : t ≡ passes round n s
+  pub each : (m : ℕ) → m < n → more (passes round m s) ≡ true
 
 module _ {S : Type 0} (more : S → Bool) (round : S → S) where
   passed-none : (s : S) → Passed more round s s 0
@@ -63,7 +64,7 @@ module _ {S : Type 0} (more : S → Bool) (round : S → S) where
   unfolding passes
   passed-more s t n e p = record { is = p .is; each = before }
     where
-      before : (m : ℕ) → m < suc n → more (passes more round m s) ≡ true
+      before : (m : ℕ) → m < suc n → more (passes round m s) ≡ true
       before zero h = e
       before (suc m) h = p .each m (le-of-suc-le-suc h)
 

@@ -35,23 +35,7 @@ gain-marked l [] i a h = absurd (not-suc-le-zero h)
 gain-marked l (c ∷ cs) zero (one {m = m} p a) h = back c l (bit m) p
 gain-marked l (c ∷ cs) (suc i) (one p a) h = gain-marked l cs i a (le-of-suc-le-suc h)
 
--- the level, or the whole cap; and one more for a taker
-module _ (l d : ℕ) (cs : List ℕ) where
-  abbrev pub taker : ℕ → Bool
-  taker i = getD (oddTakers d (openMarks (takeEach l cs))) i false
-
-  abbrev pub gainAt : ℕ → ℕ
-  gainAt i = min (getD cs i 0) l + bit (taker i)
-
-module _ (l d : ℕ) (cs : List ℕ) where
-  pub gain-at : (i : ℕ) → i < length cs → getD (lost cs (takeOdd d (takeEach l cs))) i 0 ≡ gainAt l d cs i
-  gain-at i h = gain-marked l cs i (odd-among d (takeEach l cs)) h
-
-  open-above : (i : ℕ) → getD (openMarks (takeEach l cs)) i false ≡ ltb 0 (getD cs i 0 - l)
-  open-above i = open-at (takeEach l cs) i ∙ ap (ltb 0) (each-at l cs i)
-
-  taker-le : (i : ℕ) → bit (taker l d cs i) ≤ min 1 (getD cs i 0 - l)
-  taker-le i = omega (arith, odd-open d (openMarks (takeEach l cs)) i, ap bit (open-above i), bit-ltb (getD cs i 0 - l))
+-- ---- numbers: a and b are what two tracks took of the odd dots
 
 near-arith : (x y l a b : ℕ) → a ≤ min 1 (x - l) → b ≤ min 1 (y - l) → min x l + a < x → min y l + b ≤ min x l + a + 1
 near-arith x y l a b p q h = omega arith
@@ -66,22 +50,42 @@ not-behind x y l b q h g = omega arith
 not-ahead : (x y l a : ℕ) → a ≤ min 1 (x - l) → min x l + a < x → min x l + a < min y l + 0 → ⊥
 not-ahead x y l a p h g = omega arith
 
-module _ (l d : ℕ) (cs : List ℕ) (i j : ℕ) (h : gainAt l d cs i < getD cs i 0) where
-  gain-near : gainAt l d cs j ≤ gainAt l d cs i + 1
-  gain-near = near-arith (getD cs i 0) (getD cs j 0) l _ _ (taker-le l d cs i) (taker-le l d cs j) h
+-- ---- a level l with d odd dots
 
-  gain-behind : gainAt l d cs i < gainAt l d cs j → j < i
-  gain-behind g =
-      odd-first d (openMarks (takeEach l cs)) i j
-      (open-above l d cs i ∙ lt-ltb 0 _ (room-arith (getD cs i 0) l _ (taker-le l d cs i) h))
-      (⊎-elim (λ (e : taker l d cs i ≡ true). absurd (ahead e h g)) (λ e. e) (true-or-false (taker l d cs i)))
-      (⊎-elim (λ e. e) (λ (e : taker l d cs j ≡ false). absurd (none-came e g)) (true-or-false (taker l d cs j)))
-    where
-      ahead : taker l d cs i ≡ true → min (getD cs i 0) l + bit (taker l d cs i) < getD cs i 0 → min (getD cs i 0) l + bit (taker l d cs i) < min (getD cs j 0) l + bit (taker l d cs j) → ⊥
-      ahead e p q = not-behind (getD cs i 0) (getD cs j 0) l _ (taker-le l d cs j) (rw e at p) (rw e at q)
+module _ (l d : ℕ) (cs : List ℕ) where
+  abbrev pub taker : ℕ → Bool
+  taker i = getD (oddTakers d (openMarks (takeEach l cs))) i false
 
-      none-came : taker l d cs j ≡ false → min (getD cs i 0) l + bit (taker l d cs i) < min (getD cs j 0) l + bit (taker l d cs j) → ⊥
-      none-came e q = not-ahead (getD cs i 0) (getD cs j 0) l _ (taker-le l d cs i) h (rw e at q)
+  -- the level, or the whole cap; and one more for a taker
+  abbrev pub gainAt : ℕ → ℕ
+  gainAt i = min (getD cs i 0) l + bit (taker i)
+
+  pub gain-at : (i : ℕ) → i < length cs → getD (lost cs (takeOdd d (takeEach l cs))) i 0 ≡ gainAt i
+  gain-at i h = gain-marked l cs i (odd-among d (takeEach l cs)) h
+
+  open-above : (i : ℕ) → getD (openMarks (takeEach l cs)) i false ≡ ltb 0 (getD cs i 0 - l)
+  open-above i = open-at (takeEach l cs) i ∙ ap (ltb 0) (each-at l cs i)
+
+  taker-le : (i : ℕ) → bit (taker i) ≤ min 1 (getD cs i 0 - l)
+  taker-le i = omega (arith, odd-open d (openMarks (takeEach l cs)) i, ap bit (open-above i), bit-ltb (getD cs i 0 - l))
+
+  -- the track i has a rest left
+  module _ (i j : ℕ) (h : gainAt i < getD cs i 0) where
+    gain-near : gainAt j ≤ gainAt i + 1
+    gain-near = near-arith (getD cs i 0) (getD cs j 0) l _ _ (taker-le i) (taker-le j) h
+
+    gain-behind : gainAt i < gainAt j → j < i
+    gain-behind g =
+        odd-first d (openMarks (takeEach l cs)) i j
+        (open-above i ∙ lt-ltb 0 _ (room-arith (getD cs i 0) l _ (taker-le i) h))
+        (⊎-elim (λ (e : taker i ≡ true). absurd (came e h g)) (λ e. e) (true-or-false (taker i)))
+        (⊎-elim (λ e. e) (λ (e : taker j ≡ false). absurd (none-came e g)) (true-or-false (taker j)))
+      where
+        came : taker i ≡ true → gainAt i < getD cs i 0 → gainAt i < gainAt j → ⊥
+        came e p q = not-behind (getD cs i 0) (getD cs j 0) l _ (taker-le j) (rw e at p) (rw e at q)
+
+        none-came : taker j ≡ false → gainAt i < gainAt j → ⊥
+        none-came e q = not-ahead (getD cs i 0) (getD cs j 0) l _ (taker-le i) h (rw e at q)
 
 pub fill-fair : (dots : ℕ) (cs : List ℕ) (i j : ℕ) → i < length cs → j < length cs
     → getD (lost cs (fillRests dots cs .rests)) i 0 < getD cs i 0 → OneBehind (lost cs (fillRests dots cs .rests)) i j

@@ -8,5 +8,6 @@ pub mod Call
 pub mod Fair
 pub mod RoundCount
 pub mod Share
+pub mod Caps
 pub mod Unique
 pub mod Demand

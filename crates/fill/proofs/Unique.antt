@@ -49,6 +49,9 @@ not-full noLimit g s f = f
 -- ---- two claims
 
 module _ (dots : ℕ) (as′ ls : List Bool) (rs : List ℕ) where
+  claims-length : (gs hs : List ℕ) (m n : ℕ) → FairFill dots as′ ls rs gs m → FairFill dots as′ ls rs hs n → length gs ≡ length hs
+  claims-length gs hs m n g h = sym (g .lists .affected) ∙ h .lists .affected
+
   -- where the first claim gives a track more, the second gives it less than its room, so it leaves no dots
   more-sum : (gs hs : List ℕ) (m n : ℕ) → FairFill dots as′ ls rs gs m → FairFill dots as′ ls rs hs n → Larger gs hs → sum gs ≤ sum hs
   unfolding Larger
@@ -56,18 +59,15 @@ module _ (dots : ℕ) (as′ ls : List Bool) (rs : List ℕ) where
       ⊎-elim
       (λ (p : 0 < n).
       let s = short-of (getD as′ (w .0) false) (roomAt ls rs (w .0)) (getD hs (w .0) 0) (getD gs (w .0) 0) (w .2) (g .room (w .0) (w .1)) in
-      absurd (not-full (roomAt ls rs (w .0)) (getD hs (w .0) 0) (s .1) (h .spent p (w .0) (at-hs w) (s .0))))
+      absurd (not-full (roomAt ls rs (w .0)) (getD hs (w .0) 0) (s .1) (h .spent p (w .0) (rw (claims-length gs hs m n g h) at (w .1)) (s .0))))
       (λ (p : n ≤ 0). omega (arith, g .total, h .total))
       (lt-or-ge 0 n)
-    where
-      at-hs : (w : Larger gs hs) → w .0 < length hs
-      at-hs w = rw (sym (g .lists .affected) ∙ h .lists .affected) at (w .1)
 
   -- two tracks that each claim favours one of would each stand before the other
   clash : (gs hs : List ℕ) (m n : ℕ) → FairFill dots as′ ls rs gs m → FairFill dots as′ ls rs hs n → Larger gs hs → Larger hs gs → ⊥
   unfolding Larger
   clash gs hs m n g h w v =
-      let e : length gs ≡ length hs = sym (g .lists .affected) ∙ h .lists .affected in
+      let e = claims-length gs hs m n g h in
       let j = w .0 in
       let i = v .0 in
       let jh : j < length hs = rw e at (w .1) in
@@ -82,7 +82,7 @@ module _ (dots : ℕ) (as′ ls : List Bool) (rs : List ℕ) where
 
   same-of-le : (gs hs : List ℕ) (m n : ℕ) → FairFill dots as′ ls rs gs m → FairFill dots as′ ls rs hs n → sum hs ≤ sum gs → gs ≡ hs
   same-of-le gs hs m n g h l =
-      let e : length gs ≡ length hs = sym (g .lists .affected) ∙ h .lists .affected in
+      let e = claims-length gs hs m n g h in
       ⊎-elim
       (λ e. e)
       (λ (w : Larger gs hs). ⊎-elim (λ e. sym e) (λ (v : Larger hs gs). absurd (clash gs hs m n g h w v)) (same-or-larger hs gs (sym e) (more-sum gs hs m n g h w)))

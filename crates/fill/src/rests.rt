@@ -2,6 +2,7 @@
 ghost use mathlib.Core.Path.{_≡_};
 ghost use Prim.Native.Nat.{_-_, _≤_, min};
 ghost use lib.ListN.{length};
+ghost use Rattle.fill.specs.Rule.{mostTracks};
 ghost use Rattle.fill.specs.Rests.{openRests, lowered, leastRest, takeEach, takeOdd};
 ghost use Rattle.fill.specs.Answer.{foundIn};
 
@@ -26,7 +27,7 @@ pub struct Found {
 
 // The one place that looks for both. The least room counts only where it is below `most`.
 pub fn survey(most: u32, rests: &[u32]) -> Found
-    requires { ⌜ length (now rests) ≤ 256 ⌝ }
+    requires { ⌜ length (now rests) ≤ mostTracks ⌝ }
     ensures { λ r. ⌜ r ≡ foundIn most (now (rests .entry)) ⌝ }
 {
     let count = count_open(rests);
@@ -35,7 +36,7 @@ pub fn survey(most: u32, rests: &[u32]) -> Found
 }
 
 fn count_open(rests: &[u32]) -> u32
-    requires { ⌜ length (now rests) ≤ 256 ⌝ }
+    requires { ⌜ length (now rests) ≤ mostTracks ⌝ }
     ensures { λ r. ⌜ r ≡ openRests (now (rests .entry)) ⌝ }
 {
     let mut n: u32 = 0;

@@ -4,6 +4,7 @@ use crate::rests::Found;
 ghost use mathlib.Core.Path.{_≡_};
 ghost use Prim.Native.Nat.{ℕ, _+_, _≤_, _<_};
 ghost use lib.ListN.{length};
+ghost use Rattle.fill.specs.Rule.{mostTracks};
 ghost use Rattle.fill.specs.Rests.{stateOf, restRound, fillRests};
 ghost use Rattle.fill.specs.Answer.{foundIn};
 
@@ -14,7 +15,7 @@ pub struct Rounds {
 
 // Rounds while dots and open tracks remain.
 pub fn run_rounds(dots: u32, rests: &mut [u32]) -> Rounds
-    requires { ⌜ length (now rests) ≤ 256 ⌝ }
+    requires { ⌜ length (now rests) ≤ mostTracks ⌝ }
     ensures { λ r. ⌜ fillRests dots (now (rests .entry)) ≡ stateOf (now (rests .exit)) (r .left) (r .rounds) ⌝ }
 {
     let mut left = dots;

@@ -1,5 +1,5 @@
 -- What an answer tells is what the case wants, where their parts are the same. Assumes nothing.
-use mathlib.Core.Path.{_≡_, ap}
+use mathlib.Core.Path.{_≡_}
 use mathlib.Core.Bool.{Bool, true, false}
 use Prim.Native.Nat.{ℕ}
 use Rattle.fill.specs.Answer.{numberOf, placeOf, toldBy}

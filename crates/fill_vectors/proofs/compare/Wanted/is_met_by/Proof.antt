@@ -1,7 +1,7 @@
 -- `Wanted::is_met_by` meets its contract: each way to true has every part the same. Assumes nothing.
 use borrow.Author.Needs.{needs}
 use borrow.Author.Tests.{eqb-true, not-false}
-use mathlib.Core.Path.{refl, sym, _∙_}
+use mathlib.Core.Path.{refl, _∙_}
 use Rattle.fill_vectors.proofs.Never.{never}
 use Rattle.fill_vectors.proofs.Told.{told-filled, told-refused}
 use Rattle.fill_vectors.proofs.compare.Wanted.is_met_by.Statement.{statement}

@@ -1,13 +1,20 @@
+-- The laws of the fill, from the ground up. A function's own proof stands in the folder of its name.
+
+-- who takes the odd dots, and what the marked rests lose
 pub mod Odd
+pub mod Marked
+-- a turn of each loop, and a round on the rests
 pub mod Turns
 pub mod RestRounds
-pub mod Marked
+-- one level for all: the sum, the gains, the rounds, the share
 pub mod Level
-pub mod Tied
-pub mod Call
 pub mod Fair
 pub mod RoundCount
 pub mod Share
+-- the rests and the published rule go together, and so the call keeps its promise
+pub mod Tied
+pub mod Call
+-- demand 3 of the call's own lists, and that nothing else keeps it
 pub mod Caps
 pub mod Unique
 pub mod Demand

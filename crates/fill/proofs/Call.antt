@@ -1,13 +1,13 @@
 -- The call, case by case as the code goes. Assumes nothing.
 use mathlib.Core.Path.{_≡_, refl, ap, ap₂}
-use mathlib.Core.Bool.{Bool, true, false, _&&_}
+use mathlib.Core.Bool.{Bool, true, false, and-eq-true-iff}
 use mathlib.Core.List.{List, [], _∷_}
 use Prim.Native.Nat.{ℕ, suc, _+_, _≤_, _<_}
 use native.Mathlib.Omega.{arith}
 use lib.Dec.{ltb, leb, eqb}
 use lib.ListN.{length, getD}
 use borrow.Author.Tests.{lt-ltb, le-ltb, leb-true, eqb-true}
-use Rattle.fill.specs.Rule.{trackOf, tracksOf, mostDots, listsFit, firstOver, Outcome, outcome, filled, refused, filledOutcome, fillLists, fillCall}
+use Rattle.fill.specs.Rule.{trackOf, tracksOf, mostTracks, mostDots, listsFit, firstOver, Outcome, outcome, filled, refused, filledOutcome, fillLists, fillCall}
 use Rattle.fill.specs.Rests.{caps, stateOf, fillRests, lost}
 use Rattle.fill.specs.Answer.{numberOf, placeOf, toldBy, ListsFit}
 use Rattle.fill.specs.declared.answer.Refusal.{Refusal}
@@ -16,29 +16,13 @@ use Rattle.fill.specs.declared.answer.FillAnswer.{FillAnswer}
 use Rattle.fill.specs.declared.answer.FillAnswer.the-variants.{Filled, Refused}
 use Rattle.fill.proofs.Tied.{fill-agrees}
 
-and-left : (a b : Bool) → a && b ≡ true → a ≡ true
-and-left true b e = refl
-and-left false b e = e
-
-and-right : (a b : Bool) → a && b ≡ true → b ≡ true
-and-right true b e = e
-and-right false b e = cc
-
 module _ (as′ ls : List Bool) (rs gs : List ℕ) (fits : listsFit (length as′) (length ls) (length rs) (length gs) ≡ true) where
   pub lists-fit : ListsFit as′ ls rs gs
   lists-fit =
-      let few = and-left _ _ fits in
-      let same = and-right (leb (length gs) 256) _ fits in
-      let rest = and-right (eqb (length as′) (length gs)) _ same in
-      record {
-        same =
-            record {
-              affected = eqb-true _ _ (and-left _ _ same);
-              limited = eqb-true _ _ (and-left _ _ rest);
-              rooms = eqb-true _ _ (and-right (eqb (length ls) (length gs)) _ rest);
-            };
-        few = leb-true _ _ few;
-      }
+      let few = and-eq-true-iff (leb (length gs) mostTracks) _ .0 fits in
+      let a = and-eq-true-iff (eqb (length as′) (length gs)) _ .0 (few .1) in
+      let l = and-eq-true-iff (eqb (length ls) (length gs)) _ .0 (a .1) in
+      record { same = record { affected = eqb-true _ _ (a .0); limited = eqb-true _ _ (l .0); rooms = eqb-true _ _ (l .1) }; few = leb-true _ _ (few .0) }
 
 module _ (dots : ℕ) (as′ ls : List Bool) (rs gs : List ℕ) where
   pub call-lists : listsFit (length as′) (length ls) (length rs) (length gs) ≡ false → outcome (refused 12 0) gs ≡ fillCall dots as′ ls rs gs
@@ -60,11 +44,11 @@ module _ (dots : ℕ) (as′ ls : List Bool) (rs gs : List ℕ) where
       call-filled h o e = rw (fits, d, ← first, le-ltb _ _ h) e
 
 -- the three steps of handing out
-pub handed : (dots : ℕ) (as′ ls : List Bool) (rs cs xs ys : List ℕ) (left n : ℕ) → cs ≡ caps dots as′ ls rs → fillRests dots cs ≡ stateOf xs left n
-    → ys ≡ lost (caps dots as′ ls rs) xs → outcome (filled left n) ys ≡ filledOutcome (fillLists dots as′ ls rs)
+pub handed : (dots : ℕ) (as′ ls : List Bool) (rs cs xs ys : List ℕ) (left n : ℕ) → cs ≡ caps dots (tracksOf as′ ls rs) → fillRests dots cs ≡ stateOf xs left n
+    → ys ≡ lost (caps dots (tracksOf as′ ls rs)) xs → outcome (filled left n) ys ≡ filledOutcome (fillLists dots as′ ls rs)
 handed dots as′ ls rs cs xs ys left n p q r =
     let a = fill-agrees dots as′ ls rs in
-    let s : fillRests dots (caps dots as′ ls rs) ≡ stateOf xs left n = rw p at q in
+    let s : fillRests dots (caps dots (tracksOf as′ ls rs)) ≡ stateOf xs left n = rw p at q in
     rw (← a .gains, ← a .left, ← a .rounds, s, r)
 
 -- ---- the promise leaves one answer, and reads no room that is not given

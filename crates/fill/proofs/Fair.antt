@@ -11,12 +11,12 @@ use lib.Dec.{ltb}
 use lib.ListN.{length, getD}
 use borrow.Author.Tests.{lt-ltb}
 use Rattle.laws.specs.Tests.{true-or-false}
-use Rattle.laws.specs.Marks.{bit}
+use Rattle.laws.specs.Marks.{bit, bit-ltb}
 use Rattle.fill.specs.Rule.{oddTakers}
 use Rattle.fill.specs.Rests.{takeEach, openMarks, takeMarked, takeOdd, fillRests, lost}
 use Rattle.fill.specs.Demand.{OneBehind}
-use Rattle.fill.proofs.Odd.{bit-ltb, odd-open, odd-first}
-use Rattle.fill.proofs.Marked.{Among, one, open-at, odd-among}
+use Rattle.fill.proofs.Odd.{odd-open, odd-first}
+use Rattle.fill.proofs.OpenMarks.{Among, one, open-at, odd-among}
 use Rattle.fill.proofs.Level.{fill-level}
 
 each-at : (l : ℕ) (cs : List ℕ) (i : ℕ) → getD (takeEach l cs) i 0 ≡ getD cs i 0 - l

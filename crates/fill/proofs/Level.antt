@@ -5,17 +5,16 @@ use mathlib.Core.Logic.{_⊎_, inl, inr, ⊎-elim}
 use mathlib.Core.List.{List, [], _∷_}
 use mathlib.Core.Bool.{Bool, true, false, cond}
 use Prim.Native.Nat.{ℕ, zero, suc, _+_, _-_, _*_, _/_, _≤_, _<_, min}
-use native.Mathlib.Nat.{le-refl, le-trans, min-le-right, mul-add, mul-one, mul-zero, zero-mul, sub-zero, lt-div-mul-add}
+use native.Mathlib.Nat.{le-refl, le-trans, min-le-right, mul-add, mul-one, mul-zero, sub-zero}
 use native.Mathlib.Omega.{arith}
 use lib.Dec.{eqb}
 use lib.ListN.{length}
 use borrow.Author.Tests.{eqb-true}
-use Rattle.laws.specs.Marks.{bit, number}
 use Rattle.laws.specs.Sums.{sum}
+use Rattle.laws.specs.Quotients.{lt-of-quotient-zero}
 use Rattle.laws.specs.Runs.{runs-keep, runs-done}
-use Rattle.fill.specs.Rests.{openRests, lowered, leastRest, takeEach, openMarks, takeMarked, takeOdd, State, stateOf, shareOf, restRound, restMore, fillRests, lost}
-use Rattle.fill.proofs.Odd.{odd-number}
-use Rattle.fill.proofs.Marked.{Among, none, one, odd-among, odd-sum, marked-length}
+use Rattle.fill.specs.Rests.{openRests, lowered, leastRest, takeEach, takeMarked, takeOdd, State, stateOf, shareOf, restRound, restMore, fillRests, lost}
+use Rattle.fill.proofs.OpenMarks.{Among, none, one, odd-among, odd-sum, odd-zero, marked-length}
 use Rattle.fill.proofs.RestRounds.{least-le, share-le, round-cases, round-less, more-left, more-open}
 
 -- ---- the share is no more than any open rest
@@ -61,18 +60,6 @@ unfolding takeEach
 each-length k [] = refl
 each-length k (x ∷ xs) = ap suc (each-length k xs)
 
--- fewer odd dots than open rests, where the quotient is 0
-pub lt-of-no-quotient : (d o : ℕ) → 0 < o → d / o ≡ 0 → d < o
-lt-of-no-quotient d o p q = let l : d < 0 * o + o = rw q at (lt-div-mul-add {a = d} p) in omega (arith, zero-mul o)
-
-no-marks : {ms : List Bool} {xs : List ℕ} → Among ms xs → number ms ≡ 0 → takeMarked ms xs ≡ xs
-unfolding number takeMarked
-no-marks none e = refl
-no-marks (one {m = m} {x = x} h a) e = let z : x - bit m ≡ x = omega arith in rw (z, no-marks a (omega arith))
-
-odd-zero : (xs : List ℕ) → takeOdd 0 xs ≡ xs
-odd-zero xs = no-marks (odd-among 0 xs) (omega (arith, odd-number 0 (openMarks xs)))
-
 -- ---- the level
 
 pub record Level (cs : List ℕ) (s : State) : Type 0 where
@@ -96,7 +83,7 @@ level-round cs s e v =
     let r = at-level cs s (more-left s e) v in
     round-cases (Level cs) s
     (λ q.
-    let h : s .left < openRests (s .rests) = lt-of-no-quotient (s .left) _ (more-open s e) q in
+    let h : s .left < openRests (s .rests) = lt-of-quotient-zero (s .left) _ (more-open s e) q in
     record { level = v .level; odd = s .left; is = ap (takeOdd (s .left)) r; few = inr (refl, rw r at h) })
     (λ k q h. level-at cs _ (v .level + k) (ap (takeEach k) r ∙ each-each (v .level) k cs))
 
@@ -130,7 +117,7 @@ sum-round : (dots : ℕ) (cs : List ℕ) (s : State) → restMore s ≡ true →
 sum-round dots cs s e p =
     round-cases (λ t. sum (t .rests) + dots ≡ sum cs + t .left) s
     (λ q.
-    let h : s .left < openRests (s .rests) = lt-of-no-quotient (s .left) _ (more-open s e) q in
+    let h : s .left < openRests (s .rests) = lt-of-quotient-zero (s .left) _ (more-open s e) q in
     let a = odd-sum (s .left) (s .rests) (omega arith) in
     omega arith)
     (λ k q h.

@@ -1,8 +1,9 @@
 -- The laws of the fill, from the ground up. A function's own proof stands in the folder of its name.
+-- In them as′, ls, rs and gs are a call's affected, limited, rooms and gains (antt keeps `as` for itself), and cs its caps.
 
 -- who takes the odd dots, and what the marked rests lose
 pub mod Odd
-pub mod Marked
+pub mod OpenMarks
 -- a turn of each loop, and a round on the rests
 pub mod Turns
 pub mod RestRounds

@@ -1,4 +1,5 @@
--- Laws of `oddTakers`: who takes the odd dots. All else that is proved of the odd dots follows from these. Assumes nothing.
+-- Laws of `oddTakers`: who takes the odd dots. What else is proved of the odd dots follows from these, and from no look at its
+-- text. Assumes nothing.
 use mathlib.Core.Path.{_≡_, refl, sym, ap, ap₂, _∙_}
 use mathlib.Core.Bool.{Bool, true, false}
 use mathlib.Core.List.{List, [], _∷_}
@@ -8,15 +9,12 @@ use native.Mathlib.Omega.{arith}
 use lib.Dec.{ltb}
 use lib.ListN.{length, getD}
 use borrow.Author.Tests.{ltb-false, lt-ltb}
-use Rattle.laws.specs.Marks.{bit, number}
+use Rattle.laws.specs.Tests.{never}
+use Rattle.laws.specs.Marks.{bit, bit-ltb, number}
 use Rattle.fill.specs.Rule.{oddTakers}
 use Rattle.fill.specs.Rests.{openMarks, takeMarked, takeOdd}
 
 -- ---- what holds of any rule for the odd dots
-
-pub bit-ltb : (x : ℕ) → bit (ltb 0 x) ≡ min 1 x
-bit-ltb zero = refl
-bit-ltb (suc x) = let e : min 1 (suc x) ≡ 1 = omega arith in ap bit (lt-ltb 0 (suc x) (omega arith)) ∙ sym e
 
 pub odd-length : (d : ℕ) (os : List Bool) → length (oddTakers d os) ≡ length os
 unfolding oddTakers
@@ -53,16 +51,14 @@ no-taker (false ∷ os) (suc j) = no-taker os j
 -- an open track goes without only where every taker stands before it
 pub odd-first : (d : ℕ) (os : List Bool) (i j : ℕ) → getD os i false ≡ true → getD (oddTakers d os) i false ≡ false → getD (oddTakers d os) j false ≡ true → j < i
 unfolding oddTakers
-odd-first d [] i j o n t = let z : _≡_ {A = ℕ} 0 1 = ap bit o in absurd (omega arith)
+odd-first d [] i j o n t = never o refl
 odd-first d (true ∷ os) zero j o n t =
     let e : d ≡ 0 = omega (arith, ltb-false 0 d n) in
-    let t′ : getD (oddTakers 0 (true ∷ os)) j false ≡ true = sym (ap (λ (k : ℕ). getD (oddTakers k (true ∷ os)) j false) e) ∙ t in
-    let z : _≡_ {A = ℕ} 0 1 = ap bit (sym (no-taker (true ∷ os) j) ∙ t′) in
-    absurd (omega arith)
+    never t (ap (λ (k : ℕ). getD (oddTakers k (true ∷ os)) j false) e ∙ no-taker (true ∷ os) j)
 odd-first d (true ∷ os) (suc i) zero o n t = omega arith
 odd-first d (true ∷ os) (suc i) (suc j) o n t = omega (arith, odd-first (d - 1) os i j o n t)
-odd-first d (false ∷ os) zero j o n t = let z : _≡_ {A = ℕ} 0 1 = ap bit o in absurd (omega arith)
-odd-first d (false ∷ os) (suc i) zero o n t = let z : _≡_ {A = ℕ} 0 1 = ap bit t in absurd (omega arith)
+odd-first d (false ∷ os) zero j o n t = never o refl
+odd-first d (false ∷ os) (suc i) zero o n t = never t refl
 odd-first d (false ∷ os) (suc i) (suc j) o n t = omega (arith, odd-first d os i j o n t)
 
 -- the walk from the front: this rest takes one if it is open and a dot is left

@@ -10,6 +10,8 @@ use native.Mathlib.Omega.{arith}
 use lib.Dec.{ltb, eqb}
 use borrow.Author.Tests.{ltb-true, ltb-false, lt-ltb, le-ltb, eq-eqb, ne-eqb, eqb-true, eqb-false}
 use Rattle.laws.specs.Runs.{runs, runs-more}
+use Rattle.fill.specs.Answer.{foundIn}
+use Rattle.fill.specs.declared.rests.Found.{Found}
 use Rattle.fill.specs.Rests.{openRests, lowered, leastRest, takeEach, takeOdd, State, stateOf, shareOf, restRound, restMore}
 
 -- ---- the least room
@@ -50,14 +52,20 @@ share-pos d xs p o q = mul-pos (le-min (omega arith) (least-pos d xs p)) o
 
 -- ---- a round
 
-pub round-odd : (xs ys : List ℕ) (d o n : ℕ) → o ≡ openRests xs → d / o ≡ 0 → ys ≡ takeOdd d xs → restRound (stateOf xs d n) ≡ stateOf ys 0 (n + 1)
-unfolding restRound
-round-odd xs ys d o n e h q = rw (eq-eqb (d / openRests xs) 0 (rw e at h), q)
+-- w is what a survey finds
+module _ (xs : List ℕ) (d : ℕ) (w : Found) (found : w ≡ foundIn d xs) where
+  -- so the shares of all open tracks can be taken off the dots
+  pub found-share-le : (k : ℕ) → k ≡ min (d / w .count) (w .least) → k * w .count ≤ d
+  found-share-le k p = rw (p, found) (share-le d xs)
 
-pub round-each : (xs ys : List ℕ) (d o k n : ℕ) → o ≡ openRests xs → (d / o ≡ 0 → ⊥) → k ≡ min (d / o) (leastRest d xs) → ys ≡ takeEach k xs
-    → restRound (stateOf xs d n) ≡ stateOf ys (d - k * o) (n + 1)
-unfolding restRound
-round-each xs ys d o k n e h p q = rw (ne-eqb (d / openRests xs) 0 (rw e at h), q, p, e)
+  pub round-odd : (ys : List ℕ) (n : ℕ) → d / w .count ≡ 0 → ys ≡ takeOdd d xs → restRound (stateOf xs d n) ≡ stateOf ys 0 (n + 1)
+  unfolding restRound
+  round-odd ys n h q = rw (eq-eqb (d / openRests xs) 0 (rw found at h), q)
+
+  pub round-each : (ys : List ℕ) (k n : ℕ) → (d / w .count ≡ 0 → ⊥) → k ≡ min (d / w .count) (w .least) → ys ≡ takeEach k xs
+      → restRound (stateOf xs d n) ≡ stateOf ys (d - k * w .count) (n + 1)
+  unfolding restRound
+  round-each ys k n h p q = rw (ne-eqb (d / openRests xs) 0 (rw found at h), q, p, found)
 
 -- a round by cases
 pub round-cases : (P : State → Type 0) (s : State)

@@ -5,11 +5,12 @@ use mathlib.Core.Logic.{_⊎_, inl, inr, ⊎-elim}
 use mathlib.Core.List.{List, [], _∷_}
 use mathlib.Core.Bool.{Bool, true, false, cond}
 use Prim.Native.Nat.{ℕ, _+_, _-_, _*_, _/_, _≤_, _<_, min}
-use native.Mathlib.Nat.{le-refl, eq-or-lt-of-le, min-le-left, min-eq-left, min-eq-right, le-of-lt, lt-div-mul-add, le-div-iff-mul-le, div-le-self}
+use native.Mathlib.Nat.{le-refl, eq-or-lt-of-le, min-le-left, min-eq-left, min-eq-right, le-of-lt, lt-div-mul-add, div-le-self}
 use native.Mathlib.Omega.{arith}
 use lib.Dec.{eqb}
 use borrow.Author.Tests.{eqb-false}
 use Rattle.laws.specs.Tests.{lt-or-ge}
+use Rattle.laws.specs.Quotients.{le-of-quotient-pos}
 use Rattle.laws.specs.Runs.{runs-keep}
 use Rattle.fill.specs.Rests.{openRests, lowered, leastRest, takeEach, State, stateOf, shareOf, restRound, restMore, fillRests}
 use Rattle.fill.proofs.RestRounds.{round-cases, more-left, more-open}
@@ -85,18 +86,12 @@ bound-each k m s h q e (inl a) = go (eq-or-lt-of-le (each-open-le m (s .rests)))
 bound-each k m s h q e (inr (inl a)) = absurd (omega arith)
 bound-each k m s h q e (inr (inr a)) = absurd (omega arith)
 
--- a quotient means as many dots as open tracks
-le-of-quotient : (d o : ℕ) → 0 < o → (d / o ≡ 0 → ⊥) → o ≤ d
-le-of-quotient d o p q =
-    let l : 1 ≤ d / o = omega arith in
-    let m : 1 * o ≤ d = le-div-iff-mul-le p .0 l in omega arith
-
 bound-round : (k : ℕ) (s : State) → restMore s ≡ true → Bound k s → Bound k (restRound s)
 unfolding Bound
 bound-round k s e b =
     round-cases (Bound k) s
     (λ q. inr (inr (refl, bound-odd k s (more-left s e) (more-open s e) b)))
-    (λ m q h. bound-each k m s (le-of-quotient (s .left) (openRests (s .rests)) (more-open s e) h) (more-open s e) q b)
+    (λ m q h. bound-each k m s (le-of-quotient-pos (s .left) (openRests (s .rests)) (more-open s e) h) (more-open s e) q b)
 
 pub fill-rounds : (dots : ℕ) (cs : List ℕ) → fillRests dots cs .rounds ≤ openRests cs + 1
 unfolding fillRests Bound

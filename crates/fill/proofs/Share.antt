@@ -12,7 +12,7 @@ use Rattle.laws.specs.Marks.{bit, number}
 use Rattle.laws.specs.Sums.{sum}
 use Rattle.fill.specs.Rests.{openRests, takeEach, openMarks, takeMarked, takeOdd, fillRests, lost}
 use Rattle.fill.proofs.Odd.{odd-number}
-use Rattle.fill.proofs.Marked.{Among, none, one, odd-among}
+use Rattle.fill.proofs.OpenMarks.{Among, none, one, odd-among}
 use Rattle.fill.proofs.RestRounds.{done-cases}
 use Rattle.fill.proofs.Level.{Level, fill-level, fill-done, fill-length, fill-sum}
 use Rattle.fill.proofs.Fair.{gain-at}

@@ -13,7 +13,7 @@ use Rattle.laws.specs.Marks.{bit, number}
 use Rattle.laws.specs.Runs.{runs-tied}
 use Rattle.fill.specs.Rule.{Room, upTo, noLimit, Track, trackOf, tracksOf, gainsOf, hasRoom, opens, lower, leastRoom, within, oddTakers, takes, handOut, Fill, fillOf, round, more, fill, fillLists}
 use Rattle.fill.specs.Rests.{capOf, caps, openRests, lowered, leastRest, takeEach, openMarks, takeMarked, takeOdd, State, stateOf, shareOf, restRound, restMore, fillRests, lost}
-use Rattle.fill.proofs.Marked.{Among, none, one, number-open, odd-among}
+use Rattle.fill.proofs.OpenMarks.{Among, none, one, number-open, odd-among}
 use Rattle.fill.proofs.RestRounds.{lowered-le, more-left, more-open}
 use Rattle.fill.proofs.Level.{Below, share-below}
 
@@ -151,12 +151,12 @@ module _ (cs : List ℕ) (s : State) (f : Fill) where
 
 -- ---- the start and the end
 
-start-one : (d : ℕ) (a l : Bool) (r : ℕ) → TiedOne d (trackOf a l r) (capOf d a l r) (capOf d a l r)
+start-one : (d : ℕ) (a l : Bool) (r : ℕ) → TiedOne d (trackOf a l r) (capOf d (trackOf a l r)) (capOf d (trackOf a l r))
 start-one d true true r = (refl, omega arith)
 start-one d true false r = (le-refl d, omega arith)
 start-one d false l r = (refl, refl)
 
-start-tied : (d : ℕ) (as′ ls : List Bool) (rs : List ℕ) → Tied d (caps d as′ ls rs) (caps d as′ ls rs) (tracksOf as′ ls rs)
+start-tied : (d : ℕ) (as′ ls : List Bool) (rs : List ℕ) → Tied d (caps d (tracksOf as′ ls rs)) (caps d (tracksOf as′ ls rs)) (tracksOf as′ ls rs)
 unfolding caps tracksOf
 start-tied d (a ∷ as′) (l ∷ ls) (r ∷ rs) = let v = start-one d a l r in tie (v .0) (v .1) (start-tied d as′ ls rs)
 start-tied d (a ∷ as′) (l ∷ ls) [] = nil
@@ -175,10 +175,10 @@ pub record Agree (cs : List ℕ) (s : State) (f : Fill) : Type 0 where
   pub rounds : s .rounds ≡ f .rounds
   pub more : more f ≡ restMore s
 
-pub fill-agrees : (dots : ℕ) (as′ ls : List Bool) (rs : List ℕ) → Agree (caps dots as′ ls rs) (fillRests dots (caps dots as′ ls rs)) (fillLists dots as′ ls rs)
+pub fill-agrees : (dots : ℕ) (as′ ls : List Bool) (rs : List ℕ) → Agree (caps dots (tracksOf as′ ls rs)) (fillRests dots (caps dots (tracksOf as′ ls rs))) (fillLists dots as′ ls rs)
 unfolding fillRests fill
 fill-agrees dots as′ ls rs =
-    let cs = caps dots as′ ls rs in
+    let cs = caps dots (tracksOf as′ ls rs) in
     let v =
     runs-tied restMore restRound more round (Same cs) (more-same cs) (λ s f e. round-same cs s f e) dots (stateOf cs dots 0) (fillOf (tracksOf as′ ls rs) dots 0)
     (record { left = refl; rounds = refl; tied = start-tied dots as′ ls rs }) in

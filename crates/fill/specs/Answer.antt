@@ -4,7 +4,8 @@ use Prim.Native.Nat.{ℕ, _+_, _≤_}
 use mathlib.Core.Bool.{Bool}
 use mathlib.Core.List.{List}
 use lib.ListN.{length}
-use Rattle.fill.specs.Rule.{roomOf, roomOver, mostTracks, Told, filled, refused, Outcome, outcome}
+use Rattle.fill.specs.Rule as Rule
+use Rattle.fill.specs.Rule.{roomOver, mostTracks, Told, filled, refused, Outcome, outcome}
 use Rattle.fill.specs.Rests.{capOf, openRests, leastRest}
 use Rattle.fill.specs.Demand.{OneLength}
 use Rattle.fill.specs.declared.answer.Refusal.{Refusal}
@@ -38,11 +39,15 @@ leaves answer gains = outcome (toldBy answer) gains
 abbrev pub trackAt : Bool → Bool → ℕ → Track
 trackAt affected limited room = record { affected = affected; limited = limited; room = room }
 
+-- the same track as the rule has it
+abbrev pub inRule : Track → Rule.Track
+inRule t = Rule.trackOf (t .affected) (t .limited) (t .room)
+
 abbrev pub overAt : Track → Bool
-overAt t = roomOver (roomOf (t .limited) (t .room))
+overAt t = roomOver (inRule t .room)
 
 abbrev pub capAt : ℕ → Track → ℕ
-capAt dots t = capOf dots (t .affected) (t .limited) (t .room)
+capAt dots t = capOf dots (inRule t)
 
 -- what the walks over the rests find
 abbrev pub foundIn : ℕ → List ℕ → Found

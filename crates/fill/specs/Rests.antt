@@ -7,17 +7,19 @@ use mathlib.Core.List.{List, [], _∷_}
 use lib.Dec.{ltb, eqb}
 use Rattle.laws.specs.Marks.{bit}
 use Rattle.laws.specs.Runs.{runs}
-use Rattle.fill.specs.Rule.{oddTakers}
+use Rattle.fill.specs.Rule.{Room, upTo, noLimit, Track, oddTakers}
 
--- the rest of a track at the start
-abbrev pub capOf : ℕ → Bool → Bool → ℕ → ℕ
-capOf dots affected limited room = cond affected (cond limited room dots) 0
+-- a track's rest at the start, its cap
+abbrev pub capIn : ℕ → Room → ℕ
+capIn dots (upTo room) = room
+capIn dots noLimit = dots
 
-unfoldable pub caps : ℕ → List Bool → List Bool → List ℕ → List ℕ
-caps dots (a ∷ affected) (l ∷ limited) (r ∷ rooms) = capOf dots a l r ∷ caps dots affected limited rooms
-caps dots (a ∷ affected) (l ∷ limited) [] = []
-caps dots (a ∷ affected) [] rooms = []
-caps dots [] limited rooms = []
+abbrev pub capOf : ℕ → Track → ℕ
+capOf dots t = cond (t .affected) (capIn dots (t .room)) 0
+
+unfoldable pub caps : ℕ → List Track → List ℕ
+caps dots [] = []
+caps dots (t ∷ ts) = capOf dots t ∷ caps dots ts
 
 -- how many rests are open, that is not 0
 unfoldable pub openRests : List ℕ → ℕ
@@ -52,6 +54,7 @@ takeMarked [] xs = xs
 abbrev pub takeOdd : ℕ → List ℕ → List ℕ
 takeOdd d xs = takeMarked (oddTakers d (openMarks xs)) xs
 
+-- a fill under way, by its rests
 pub record State : Type 0 where
   pub rests : List ℕ
   pub left : ℕ
@@ -60,7 +63,7 @@ pub record State : Type 0 where
 abbrev pub stateOf : List ℕ → ℕ → ℕ → State
 stateOf xs left rounds = record { rests = xs; left = left; rounds = rounds }
 
--- what each open rest loses in a round: the dots are a bound for the least room too
+-- what each open rest loses in a round: the least room is looked for below the dots, since no share is larger
 abbrev pub shareOf : ℕ → List ℕ → ℕ
 shareOf left xs = min (left / openRests xs) (leastRest left xs)
 

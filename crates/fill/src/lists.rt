@@ -40,7 +40,7 @@ pub fn first_over(affected: &[bool], limited: &[bool], rooms: &[u32]) -> usize
 // Each track's rest at the start.
 pub fn load(dots: u32, affected: &[bool], limited: &[bool], rooms: &[u32], rests: &mut [u32])
     requires { ⌜ OneLength (now affected) (now limited) (now rooms) (now rests) ⌝ }
-    ensures { λ _. ⌜ now (rests .exit) ≡ caps dots (now (affected .entry)) (now (limited .entry)) (now (rooms .entry)) ⌝ }
+    ensures { λ _. ⌜ now (rests .exit) ≡ caps dots (tracksOf (now (affected .entry)) (now (limited .entry)) (now (rooms .entry))) ⌝ }
 {
     let mut i = 0;
     while i < rests.len() {
@@ -53,7 +53,7 @@ pub fn load(dots: u32, affected: &[bool], limited: &[bool], rooms: &[u32], rests
 // Each track's gain in place of what is left of its rest.
 pub fn settle(dots: u32, affected: &[bool], limited: &[bool], rooms: &[u32], rests: &mut [u32])
     requires { ⌜ OneLength (now affected) (now limited) (now rooms) (now rests) ⌝ }
-    ensures { λ _. ⌜ now (rests .exit) ≡ lost (caps dots (now (affected .entry)) (now (limited .entry)) (now (rooms .entry))) (now (rests .entry)) ⌝ }
+    ensures { λ _. ⌜ now (rests .exit) ≡ lost (caps dots (tracksOf (now (affected .entry)) (now (limited .entry)) (now (rooms .entry)))) (now (rests .entry)) ⌝ }
 {
     let mut i = 0;
     while i < rests.len() {

@@ -1,2 +1,1 @@
-pub mod Never
 pub mod Told

@@ -6,19 +6,18 @@ use crate::cursor::going;
 use crate::report::Tally;
 use crate::report::print_fault;
 use crate::report::print_tally;
-use crate::spans::blanks_end;
-use crate::spans::line_end;
+use crate::spans::Run;
 
 pub fn check_all(text: &[u8]) {
     let mut tally = Tally::new();
-    let mut at = blanks_end(text, 0);
+    let mut at = Run::Blanks.end(text, 0);
     while at < text.len() {
         if text[at] != b'#' {
             print_fault(at, Fault::Case);
             return;
         }
         let name = at + 1;
-        let checked = check_case(text, going(line_end(text, name)));
+        let checked = check_case(text, going(Run::Line.end(text, name)));
         let next = checked.next;
         let state = next.state;
         if let State::Stopped(fault) = state {
@@ -26,7 +25,7 @@ pub fn check_all(text: &[u8]) {
             return;
         }
         tally = tally.counted(checked.agrees, name);
-        at = blanks_end(text, next.at);
+        at = Run::Blanks.end(text, next.at);
     }
     if tally.cases == 0 {
         print_fault(at, Fault::NoCase);

@@ -7,7 +7,7 @@ use crate::cursor::Fault;
 use crate::cursor::stopped;
 use crate::numbers::read_mark;
 use crate::numbers::read_number;
-use crate::spans::blanks_end;
+use crate::spans::Run;
 
 pub struct List {
     pub count: usize,
@@ -18,7 +18,7 @@ fn read_length(text: &[u8], from: Cursor, most: usize) -> List
     requires { ⌜ from .at ≤ length (now text) ⌝ }
     ensures { λ r. ⌜ (r .count ≤ most) × Onward (now (text .entry)) (from .at) (r .next .at) ⌝ }
 {
-    let start = blanks_end(text, from.at);
+    let start = Run::Blanks.end(text, from.at);
     let read = read_number(text, from);
     let count = read.value as usize;
     let next = read.next;

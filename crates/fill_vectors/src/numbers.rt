@@ -6,9 +6,7 @@ use crate::cursor::Cursor;
 use crate::cursor::Fault;
 use crate::cursor::going;
 use crate::cursor::stopped;
-use crate::spans::blanks_end;
-use crate::spans::digits_end;
-use crate::spans::is_blank;
+use crate::spans::Run;
 
 // One more than the largest number: where a longer number is held while its digits are read.
 const TOO_LARGE: u64 = 4294967296;
@@ -55,7 +53,7 @@ fn decimal(digits: &[u8]) -> u64 {
 // A number ends at a blank, a line end or the end of the text.
 fn is_end(text: &[u8], at: usize) -> bool {
     if at < text.len() {
-        is_blank(text[at])
+        Run::Blanks.has(text[at])
     } else {
         true
     }
@@ -80,8 +78,8 @@ pub fn read_number(text: &[u8], from: Cursor) -> Number
             next: from,
         };
     }
-    let start = blanks_end(text, from.at);
-    let end = digits_end(text, start);
+    let start = Run::Blanks.end(text, from.at);
+    let end = Run::Digits.end(text, start);
     if start == end {
         return Number {
             value: 0,
@@ -111,7 +109,7 @@ pub fn read_mark(text: &[u8], from: Cursor) -> Mark
     requires { ⌜ from .at ≤ length (now text) ⌝ }
     ensures { λ r. ⌜ Onward (now (text .entry)) (from .at) (r .next .at) ⌝ }
 {
-    let start = blanks_end(text, from.at);
+    let start = Run::Blanks.end(text, from.at);
     let read = read_number(text, from);
     let next = read.next;
     if read.value > 1 {

@@ -4,7 +4,7 @@ ghost use mathlib.Core.Bool.{true, false};
 ghost use Prim.Native.Nat.{_≤_, _<_, _+_};
 ghost use lib.ListN.{length};
 use crate::cursor::Fault;
-use crate::spans::line_end;
+use crate::spans::Run;
 use libc::STDERR_FILENO;
 use libc::STDOUT_FILENO;
 
@@ -63,7 +63,7 @@ impl Tally {
 fn print_first(text: &[u8], number: usize, name: usize)
     requires { ⌜ name ≤ length (now text) ⌝ }
 {
-    let end = line_end(text, name);
+    let end = Run::Line.end(text, name);
     io::write_all(STDOUT_FILENO, b"first to differ: case ");
     io::print_decimal(STDOUT_FILENO, number as u64);
     io::write_all(STDOUT_FILENO, b",");

@@ -2,4 +2,5 @@ pub mod Tests
 pub mod Sums
 pub mod Marks
 pub mod Walk
+pub mod Quotients
 pub mod Runs

@@ -13,10 +13,6 @@ module _ {A : Type 0} where
   pub next : (l : List A) (i : ℕ) (d : A) → i < length l → drop i l ≡ getD l i d ∷ drop (i + 1) l
   next l i d h = rw (add-one, drop-cons l i d)
 
-  -- at the end nothing is left to read
-  pub none-left : (l : List A) (i : ℕ) → length l ≤ i → drop i l ≡ []
-  none-left l i h = drop-of-length-le l h
-
   -- a store at i makes the written part one longer
   pub written : (l : List A) (i : ℕ) (v : A) (t : List A) → i < length l → take (i + 1) (set l i v) ++ t ≡ take i l ++ (v ∷ t)
   written l i v t h = rw (add-one, take-suc-set, append-assoc)
@@ -34,4 +30,4 @@ module _ {A : Type 0} where
 
     -- the walk's end
     pub store-end : (F : List A → List A) (w : List A) → length l ≤ i → F [] ≡ [] → take i l ++ F (drop i l) ≡ w → l ≡ w
-    store-end F w h e p = rw (none-left l i, e, take-all, append-nil) at p
+    store-end F w h e p = rw (drop-of-length-le l, e, take-all, append-nil) at p

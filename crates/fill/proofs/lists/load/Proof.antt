@@ -5,14 +5,15 @@ use mathlib.Core.List.{_++_}
 use Prim.Native.Nat.{_+_, _-_, _≤_}
 use lib.ListN.{length, take}
 use Rattle.laws.specs.Walk.{store-step, store-end}
+use Rattle.fill.specs.Rule.{tracksOf}
 use Rattle.fill.specs.Rests.{caps}
 use Rattle.fill.specs.Answer.{capAt}
-use Rattle.fill.proofs.Turns.{capsFrom, caps-step, caps-end}
+use Rattle.fill.proofs.Turns.{tracksFrom, caps-step, caps-end}
 use Rattle.fill.proofs.lists.load.Statement.{statement}
 use Rattle.fill.proofs.lists.load.Tie as tie
 
 abbrev Inv-loop : tie.InvT-loop
-Inv-loop dots affected limited rooms rests₀ i₀ rests i = (i ≤ length rests₀) × (length rests ≡ length rests₀) × (take i rests ++ capsFrom affected limited rooms i dots ≡ caps dots affected limited rooms)
+Inv-loop dots affected limited rooms rests₀ i₀ rests i = (i ≤ length rests₀) × (length rests ≡ length rests₀) × (take i rests ++ caps dots (tracksFrom affected limited rooms i) ≡ caps dots (tracksOf affected limited rooms))
 
 abbrev μ-loop : tie.MeasureT-loop
 μ-loop dots affected limited rooms rests₀ i₀ rests i = length rests₀ - i
@@ -55,12 +56,12 @@ loop-again c =
     let h = c .before .before .before .before .before in
     let a = h .before .before .before .before .before .before .args in
     let i = h .before .loop .i in
-    let from = capsFrom (a .affected .now) (a .limited .now) (a .rooms .now) in
+    let from = tracksFrom (a .affected .now) (a .limited .now) (a .rooms .now) in
     let one = c .cap .ensures ∙ ap (capAt (a .dots)) (c .before .new .ensures) in (
       search needs,
       search needs,
-      store-step _ _ (λ _. from i (a .dots)) (λ _. from (i + 1) (a .dots)) _ 0 _ (h .loop-test .taken)
-          (caps-step _ _ _ i (search needs) (search needs) (search needs) (a .dots) ∙ rw one) (h .before .loop .inv .2),
+      store-step _ _ (λ _. caps (a .dots) (from i)) (λ _. caps (a .dots) (from (i + 1))) _ 0 _ (h .loop-test .taken)
+          (caps-step _ _ _ i (search needs) (search needs) (search needs) (a .dots) _ one) (h .before .loop .inv .2),
     )
 
 same-length : tie.Need-same-length Inv-loop μ-loop
@@ -70,7 +71,7 @@ returns : tie.Need-returns Inv-loop μ-loop
 returns c =
     let a = c .before .before .before .before .before .before .args in
     let i = c .before .loop .i in
-    store-end _ _ (λ _. capsFrom (a .affected .now) (a .limited .now) (a .rooms .now) i (a .dots)) _ (c .loop-test .left)
+    store-end _ _ (λ _. caps (a .dots) (tracksFrom (a .affected .now) (a .limited .now) (a .rooms .now) i)) _ (c .loop-test .left)
     (caps-end (a .affected .now) (a .limited .now) (a .rooms .now) i (search needs) (a .dots)) (c .before .loop .inv .2)
 
 pub load-spec : {M : Type 1} → statement M

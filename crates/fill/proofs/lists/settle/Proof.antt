@@ -5,14 +5,15 @@ use mathlib.Core.List.{_++_}
 use Prim.Native.Nat.{_+_, _-_, _≤_}
 use lib.ListN.{length, take, drop}
 use Rattle.laws.specs.Walk.{store-step, store-end}
+use Rattle.fill.specs.Rule.{tracksOf}
 use Rattle.fill.specs.Rests.{caps, lost}
 use Rattle.fill.specs.Answer.{capAt}
-use Rattle.fill.proofs.Turns.{capsFrom, lost-step, caps-end}
+use Rattle.fill.proofs.Turns.{tracksFrom, lost-step, caps-end}
 use Rattle.fill.proofs.lists.settle.Statement.{statement}
 use Rattle.fill.proofs.lists.settle.Tie as tie
 
 abbrev Inv-loop : tie.InvT-loop
-Inv-loop dots affected limited rooms rests₀ i₀ rests i = (i ≤ length rests₀) × (length rests ≡ length rests₀) × (take i rests ++ lost (capsFrom affected limited rooms i dots) (drop i rests) ≡ lost (caps dots affected limited rooms) rests₀)
+Inv-loop dots affected limited rooms rests₀ i₀ rests i = (i ≤ length rests₀) × (length rests ≡ length rests₀) × (take i rests ++ lost (caps dots (tracksFrom affected limited rooms i)) (drop i rests) ≡ lost (caps dots (tracksOf affected limited rooms)) rests₀)
 
 abbrev μ-loop : tie.MeasureT-loop
 μ-loop dots affected limited rooms rests₀ i₀ rests i = length rests₀ - i
@@ -64,11 +65,11 @@ loop-again c =
     let h = c .before .before .before .before .before .before .before in
     let a = h .before .before .before .before .before .before .args in
     let i = h .before .loop .i in
-    let from = capsFrom (a .affected .now) (a .limited .now) (a .rooms .now) in
+    let from = tracksFrom (a .affected .now) (a .limited .now) (a .rooms .now) in
     let one = c .before .before .cap .ensures ∙ ap (capAt (a .dots)) (c .before .before .before .new .ensures) in (
       search needs,
       search needs,
-      store-step _ _ (lost (from i (a .dots))) (lost (from (i + 1) (a .dots))) _ 0 _ (h .loop-test .taken)
+      store-step _ _ (lost (caps (a .dots) (from i))) (lost (caps (a .dots) (from (i + 1)))) _ 0 _ (h .loop-test .taken)
           (lost-step _ _ _ i (search needs) (search needs) (search needs) (a .dots) _ _ _ (cc)) (h .before .loop .inv .2),
     )
 
@@ -80,7 +81,7 @@ unfolding lost
 returns c =
     let a = c .before .before .before .before .before .before .args in
     let i = c .before .loop .i in
-    store-end _ _ (lost (capsFrom (a .affected .now) (a .limited .now) (a .rooms .now) i (a .dots))) _ (c .loop-test .left)
+    store-end _ _ (lost (caps (a .dots) (tracksFrom (a .affected .now) (a .limited .now) (a .rooms .now) i))) _ (c .loop-test .left)
     (rw (caps-end (a .affected .now) (a .limited .now) (a .rooms .now) i (search needs) (a .dots))) (c .before .loop .inv .2)
 
 pub settle-spec : {M : Type 1} → statement M

@@ -1,11 +1,7 @@
 -- `round` meets its contract: its two ends are the round's two cases. Assumes nothing.
 use borrow.Author.Needs.{needs}
-use mathlib.Core.Path.{_≡_, ap, _∙_}
-use Prim.Native.Nat.{_/_, min}
 use native.Mathlib.Nat.{lt-of-le-of-lt}
-use Rattle.fill.specs.Rests.{openRests, leastRest, shareOf}
-use Rattle.fill.specs.declared.rests.Found.{Found}
-use Rattle.fill.proofs.RestRounds.{share-le, round-odd, round-each}
+use Rattle.fill.proofs.RestRounds.{found-share-le, round-odd, round-each}
 use Rattle.fill.proofs.rounds.round.Statement.{statement}
 use Rattle.fill.proofs.rounds.round.Tie as tie
 
@@ -22,8 +18,7 @@ returns : tie.Need-returns
 returns c =
     λ n.
     let s = c .before .before .before .before .before .before in
-    let f = s .pre .0 in
-    round-odd _ _ _ (s .args .found .count) n (cc) (c .before .before .before .before .if1 .taken) (c .before .before .take-odd .ensures)
+    round-odd _ _ (s .args .found) (s .pre .0) _ n (c .before .before .before .before .if1 .taken) (c .before .before .take-odd .ensures)
 
 smaller-requires : tie.Need-smaller-requires
 smaller-requires c κs = search needs
@@ -34,18 +29,12 @@ take-each-requires c κs = search needs
 mul-result : tie.Need-mul-result
 mul-result c =
     let s = c .before .before .before .before .before .before .before in
-    let f = s .pre .0 in
-    let k : c .before .before .before .before .smaller .result ≡ shareOf (s .args .left) (s .args .rests .now) = c .before .before .before .before .smaller .ensures ∙ ap (λ (w : Found). min (s .args .left / w .count) (w .least)) f in
-    let n : s .args .found .count ≡ openRests (s .args .rests .now) = cc in
-    record { fits = rw (k, n) (lt-of-le-of-lt (share-le (s .args .left) (s .args .rests .now)) (s .fits .left .fits)) }
+    record { fits = lt-of-le-of-lt (found-share-le _ _ (s .args .found) (s .pre .0) _ (c .before .before .before .before .smaller .ensures)) (s .fits .left .fits) }
 
 sub-result : tie.Need-sub-result
 sub-result c =
     let s = c .before .before .before .before .before .before .before in
-    let f = s .pre .0 in
-    let k : c .before .before .before .before .smaller .result ≡ shareOf (s .args .left) (s .args .rests .now) = c .before .before .before .before .smaller .ensures ∙ ap (λ (w : Found). min (s .args .left / w .count) (w .least)) f in
-    let n : s .args .found .count ≡ openRests (s .args .rests .now) = cc in
-    rw (k, n) (share-le (s .args .left) (s .args .rests .now))
+    found-share-le _ _ (s .args .found) (s .pre .0) _ (c .before .before .before .before .smaller .ensures)
 
 same-length-2 : tie.Need-same-length-2
 same-length-2 c = search needs
@@ -54,9 +43,7 @@ returns-2 : tie.Need-returns-2
 returns-2 c =
     λ n.
     let s = c .before .before .before .before .before .before .before in
-    let f = s .pre .0 in
-    let l : s .args .found .least ≡ leastRest (s .args .left) (s .args .rests .now) = cc in
-    round-each _ _ _ (s .args .found .count) _ n (cc) (c .before .before .before .before .before .if1 .left) (c .before .before .before .before .smaller .ensures ∙ ap (min _) l) (c .before .before .take-each .ensures)
+    round-each _ _ (s .args .found) (s .pre .0) _ _ n (c .before .before .before .before .before .if1 .left) (c .before .before .before .before .smaller .ensures) (c .before .before .take-each .ensures)
 
 pub round-spec : {M : Type 1} → statement M
 round-spec =

@@ -15,8 +15,8 @@ abbrev μ-loop : tie.MeasureT-loop
 new-requires : tie.Need-new-requires Inv-loop μ-loop
 new-requires c κs = search needs
 
-blanks-end-requires : tie.Need-blanks-end-requires Inv-loop μ-loop
-blanks-end-requires c κs = search needs
+end-requires : tie.Need-end-requires Inv-loop μ-loop
+end-requires c κs = search needs
 
 loop-holds : tie.Need-loop-holds Inv-loop μ-loop
 loop-holds c = search needs
@@ -33,8 +33,8 @@ returns c = search needs
 add-name : tie.Need-add-name Inv-loop μ-loop
 add-name c = search needs
 
-line-end-requires : tie.Need-line-end-requires Inv-loop μ-loop
-line-end-requires c κs = search needs
+end-requires-2 : tie.Need-end-requires-2 Inv-loop μ-loop
+end-requires-2 c κs = search needs
 
 going-requires : tie.Need-going-requires Inv-loop μ-loop
 going-requires c κs = search needs
@@ -57,8 +57,8 @@ enum-told c = search needs
 counted-requires : tie.Need-counted-requires Inv-loop μ-loop
 counted-requires c κs = search needs
 
-blanks-end-requires-2 : tie.Need-blanks-end-requires-2 Inv-loop μ-loop
-blanks-end-requires-2 c κs = search needs
+end-requires-3 : tie.Need-end-requires-3 Inv-loop μ-loop
+end-requires-3 c κs = search needs
 
 loop-less : tie.Need-loop-less Inv-loop μ-loop
 loop-less c = search needs
@@ -85,13 +85,13 @@ check-all-spec =
     Inv-loop
     μ-loop
     new-requires
-    blanks-end-requires
+    end-requires
     loop-holds
     shared-slice-read-if1
     print-fault-requires
     returns
     add-name
-    line-end-requires
+    end-requires-2
     going-requires
     check-case-requires
     enum-known-state
@@ -99,7 +99,7 @@ check-all-spec =
     returns-2
     enum-told
     counted-requires
-    blanks-end-requires-2
+    end-requires-3
     loop-less
     loop-again
     print-fault-requires-3

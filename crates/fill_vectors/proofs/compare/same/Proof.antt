@@ -8,7 +8,7 @@ use lib.ListN.{length, getD}
 use lib.Seq.{ext-getD}
 use borrow.Author.Count.{below-more}
 use borrow.Author.Needs.{needs}
-use Rattle.fill_vectors.proofs.Never.{never}
+use Rattle.laws.specs.Tests.{never}
 use Rattle.fill_vectors.proofs.compare.same.Statement.{statement}
 use Rattle.fill_vectors.proofs.compare.same.Tie as tie
 

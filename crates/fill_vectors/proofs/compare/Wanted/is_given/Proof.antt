@@ -3,7 +3,7 @@ use borrow.Author.Needs.{needs}
 use borrow.Author.Tests.{not-false}
 use mathlib.Core.Path.{refl, sym, ap₂, _∙_}
 use Rattle.fill.specs.Rule.{outcome}
-use Rattle.fill_vectors.proofs.Never.{never}
+use Rattle.laws.specs.Tests.{never}
 use Rattle.fill_vectors.proofs.compare.Wanted.is_given.Statement.{statement}
 use Rattle.fill_vectors.proofs.compare.Wanted.is_given.Tie as tie
 

@@ -2,7 +2,7 @@
 use borrow.Author.Needs.{needs}
 use borrow.Author.Tests.{eqb-true, not-false}
 use mathlib.Core.Path.{refl, _∙_}
-use Rattle.fill_vectors.proofs.Never.{never}
+use Rattle.laws.specs.Tests.{never}
 use Rattle.fill_vectors.proofs.Told.{told-filled, told-refused}
 use Rattle.fill_vectors.proofs.compare.Wanted.is_met_by.Statement.{statement}
 use Rattle.fill_vectors.proofs.compare.Wanted.is_met_by.Tie as tie

@@ -1,7 +1,7 @@
 -- `Tally::counted` meets its contract, at each of its three answers. Assumes nothing.
 use mathlib.Core.Path.{refl}
 use borrow.Author.Needs.{needs}
-use Rattle.fill_vectors.proofs.Never.{never}
+use Rattle.laws.specs.Tests.{never}
 use Rattle.fill_vectors.proofs.report.Tally.counted.Statement.{statement}
 use Rattle.fill_vectors.proofs.report.Tally.counted.Tie as tie
 

@@ -2,15 +2,15 @@
 use mathlib.Core.Path.{_≡_, refl, ap, _∙_}
 use mathlib.Core.Bool.{Bool, false}
 use mathlib.Core.List.{List, [], _∷_}
-use Prim.Native.Nat.{ℕ, zero, suc, _+_, _≤_}
+use Prim.Native.Nat.{ℕ, zero, suc, _+_, _-_, _≤_}
 use native.Mathlib.Omega.{arith}
 use lib.Dec.{ltb}
 use lib.ListN.{length, getD}
-use Rattle.laws.specs.Marks.{bit, number}
+use Rattle.laws.specs.Marks.{bit, bit-ltb, number}
 use Rattle.laws.specs.Sums.{sum}
 use Rattle.fill.specs.Rule.{oddTakers}
 use Rattle.fill.specs.Rests.{openRests, openMarks, takeMarked, takeOdd}
-use Rattle.fill.proofs.Odd.{bit-ltb, odd-length, odd-open, odd-number}
+use Rattle.fill.proofs.Odd.{odd-length, odd-open, odd-number}
 
 pub number-open : (xs : List ℕ) → number (openMarks xs) ≡ openRests xs
 unfolding number openMarks openRests
@@ -58,3 +58,12 @@ marked-length (one h a) = ap suc (marked-length a)
 -- the odd dots are all taken, where there are enough open rests
 pub odd-sum : (d : ℕ) (xs : List ℕ) → d ≤ openRests xs → sum (takeOdd d xs) + d ≡ sum xs
 odd-sum d xs h = omega (arith, marked-sum (odd-among d xs), odd-number d (openMarks xs), number-open xs)
+
+-- no marks, no loss
+no-marks : {ms : List Bool} {xs : List ℕ} → Among ms xs → number ms ≡ 0 → takeMarked ms xs ≡ xs
+unfolding number takeMarked
+no-marks none e = refl
+no-marks (one {m = m} {x = x} h a) e = let z : x - bit m ≡ x = omega arith in rw (z, no-marks a (omega arith))
+
+pub odd-zero : (xs : List ℕ) → takeOdd 0 xs ≡ xs
+odd-zero xs = no-marks (odd-among 0 xs) (omega (arith, odd-number 0 (openMarks xs)))

@@ -13,13 +13,13 @@ impl Space {
     // The most dots of a space.
     pub const MOST: u32 = 16_777_215;
 
-    pub fn new(dots: u32) -> Space
+    pub(crate) fn new(dots: u32) -> Space
         ensures { λ r. ⌜ r .dots ≡ dots ⌝ }
     {
         Space { dots }
     }
 
-    pub fn is_over(self) -> bool
+    pub(crate) fn is_over(self) -> bool
         ensures { λ r. ⌜ r ≡ ltb mostDots (self .dots) ⌝ }
     {
         self.dots > Space::MOST
@@ -37,7 +37,7 @@ impl Track {
     // The most tracks of a board.
     pub const MOST: usize = 256;
 
-    pub fn new(affected: bool, limited: bool, room: u32) -> Track
+    pub(crate) fn new(affected: bool, limited: bool, room: u32) -> Track
         ensures { λ r. ⌜ r ≡ trackAt affected limited room ⌝ }
     {
         Track {
@@ -48,7 +48,7 @@ impl Track {
     }
 
     // A room is given, and it is over the space limit.
-    pub fn is_over(self) -> bool
+    pub(crate) fn is_over(self) -> bool
         ensures { λ r. ⌜ r ≡ overAt self ⌝ }
     {
         if self.limited {
@@ -58,7 +58,7 @@ impl Track {
     }
 
     // The most that this track can take of so many dots.
-    pub fn cap(self, dots: u32) -> u32
+    pub(crate) fn cap(self, dots: u32) -> u32
         ensures { λ r. ⌜ r ≡ capAt dots self ⌝ }
     {
         if self.affected {

@@ -10,7 +10,8 @@ mod rounds;
 
 pub use answer::FillAnswer;
 pub use answer::Refusal;
-use kinds::Space;
+pub use kinds::Space;
+pub use kinds::Track;
 use rounds::Rounds;
 ghost use mathlib.Core.Path.{_≡_};
 ghost use Rattle.fill.specs.Rule.{filled, outcome, filledOutcome, fillLists, fillCall};

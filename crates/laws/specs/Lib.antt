@@ -4,3 +4,5 @@ pub mod Marks
 pub mod Walk
 pub mod Quotients
 pub mod Runs
+pub mod Put
+pub mod Rows

@@ -1,0 +1,120 @@
+-- The code's kinds and the rows that say them. A tag tells absent from given; no number does. Assumes nothing.
+use Prim.Native.Nat.{ℕ, _+_, _*_, _/_, _%_}
+use mathlib.Core.Bool.{Bool, true, false, cond, _||_}
+use mathlib.Core.List.{List, [], _∷_}
+use lib.Dec.{ltb, eqb}
+use lib.ListN.{getD}
+use Rattle.laws.specs.Marks.{bit}
+use Rattle.kinds.specs.declared.Amount.{Amount}
+use Rattle.kinds.specs.declared.Amount.the-variants.{Absent, Given}
+use Rattle.kinds.specs.declared.Constraint.{Constraint}
+use Rattle.kinds.specs.declared.Constraint.the-variants as constraint
+use Rattle.kinds.specs.declared.Space.{Space}
+use Rattle.kinds.specs.declared.Minimum.{Minimum}
+use Rattle.kinds.specs.declared.Minimum.the-variants as minimum
+use Rattle.kinds.specs.declared.Maximum.{Maximum}
+use Rattle.kinds.specs.declared.Maximum.the-variants as maximum
+use Rattle.kinds.specs.declared.Track.{Track}
+use Rattle.kinds.specs.declared.ContributionKind.{ContributionKind}
+use Rattle.kinds.specs.declared.ContributionKind.the-variants as kind
+use Rattle.kinds.specs.declared.Contribution.{Contribution}
+use Rattle.kinds.specs.declared.Item.{Item}
+
+-- a row: the numbers of a record, in order
+abbrev pub Row : Type 0
+Row = List ℕ
+
+-- ---- A number that may be missing
+
+abbrev pub amountTag : Amount → ℕ
+amountTag Absent = 0
+amountTag (Given n) = 1
+
+abbrev pub amountNumber : Amount → ℕ
+amountNumber Absent = 0
+amountNumber (Given n) = n
+
+abbrev pub amountOf : ℕ → ℕ → Amount
+amountOf tag n = cond (eqb tag 1) (Given n) Absent
+
+-- ---- The space
+
+abbrev pub space : Constraint → Amount → Bool → Space
+space constraint inner stretch = record { constraint = constraint; inner = inner; stretch = stretch }
+
+abbrev pub constraintTag : Constraint → ℕ
+constraintTag (constraint.Definite n) = 1
+constraintTag constraint.MinContent = 2
+constraintTag constraint.MaxContent = 3
+
+abbrev pub constraintNumber : Constraint → ℕ
+constraintNumber (constraint.Definite n) = n
+constraintNumber constraint.MinContent = 0
+constraintNumber constraint.MaxContent = 0
+
+abbrev pub constraintOf : ℕ → ℕ → Constraint
+constraintOf tag n = cond (eqb tag 1) (constraint.Definite n) (cond (eqb tag 2) constraint.MinContent constraint.MaxContent)
+
+abbrev pub spaceRow : Space → Row
+spaceRow s = constraintTag (s .constraint) ∷ constraintNumber (s .constraint) ∷ amountTag (s .inner) ∷ amountNumber (s .inner) ∷ bit (s .stretch) ∷ []
+
+abbrev pub spaceOf : Row → Space
+spaceOf row = space (constraintOf (getD row 0 0) (getD row 1 0)) (amountOf (getD row 2 0) (getD row 3 0)) (eqb (getD row 4 0) 1)
+
+-- ---- A track
+
+abbrev pub track : Minimum → Maximum → Track
+track minimum maximum = record { minimum = minimum; maximum = maximum }
+
+abbrev pub minimumOf : ℕ → ℕ → Minimum
+minimumOf tag n =
+    cond (eqb tag 1) (minimum.Fixed n)
+    (cond (eqb tag 2) minimum.Auto
+    (cond (eqb tag 3) minimum.MinContent minimum.MaxContent))
+
+abbrev pub maximumOf : ℕ → ℕ → Maximum
+maximumOf tag n =
+    cond (eqb tag 1) (maximum.Fixed n)
+    (cond (eqb tag 2) maximum.Auto
+    (cond (eqb tag 3) maximum.MinContent
+    (cond (eqb tag 4) maximum.MaxContent
+    (cond (eqb tag 5) (maximum.FitContent n) (maximum.Fr n)))))
+
+abbrev pub trackOf : Row → Track
+trackOf row = track (minimumOf (getD row 0 0) (getD row 1 0)) (maximumOf (getD row 2 0) (getD row 3 0))
+
+-- ---- An item: its start and span are the halves of its row's first number
+
+abbrev pub item : ℕ → ℕ → List Contribution → Item
+item start span row = record { start = start; span = span; row = row }
+
+abbrev pub contribution : Amount → Contribution
+contribution amount = record { amount = amount }
+
+abbrev pub kindIndex : ContributionKind → ℕ
+kindIndex kind.Minimum = 0
+kindIndex kind.MinContent = 1
+kindIndex kind.MaxContent = 2
+
+abbrev pub itemOf : Row → Item
+itemOf row =
+    item (getD row 0 0 % 65536) (getD row 0 0 / 65536)
+    (contribution (amountOf (getD row 1 0) (getD row 2 0)) ∷ contribution (amountOf (getD row 3 0) (getD row 4 0)) ∷ contribution (amountOf (getD row 5 0) (getD row 6 0)) ∷ [])
+
+abbrev pub amountAt : Item → ContributionKind → Amount
+amountAt i k = getD (i .row) (kindIndex k) (contribution Absent) .amount
+
+-- both are given, and the later is below the earlier
+abbrev pub above : Amount → Amount → Bool
+above (Given x) (Given y) = ltb y x
+above (Given x) Absent = false
+above Absent later = false
+
+abbrev pub isAbove : Contribution → Contribution → Bool
+isAbove a b = above (a .amount) (b .amount)
+
+-- a given contribution is below an earlier given one
+abbrev pub fallsIn : List Contribution → Bool
+fallsIn row =
+    isAbove (getD row 0 (contribution Absent)) (getD row 1 (contribution Absent))
+    || (isAbove (getD row 1 (contribution Absent)) (getD row 2 (contribution Absent)) || isAbove (getD row 0 (contribution Absent)) (getD row 2 (contribution Absent)))

@@ -1,0 +1,95 @@
+-- What bytes without fault have: three allowed counts, all the records that these announce, and nothing behind. Assumes nothing.
+use mathlib.Core.Path.{_≡_}
+use mathlib.Core.Bool.{true}
+use Prim.Native.Nat.{ℕ, zero, suc, _+_, _*_, _≤_}
+use native.Mathlib.Omega.{arith}
+use mathlib.Core.List.{List}
+use lib.Dec.{leb}
+use lib.ListN.{length, drop}
+use borrow.Author.Tests.{leb-true, eqb-true}
+use Rattle.fill.specs.Rule.{mostTracks}
+use Rattle.sheet.specs.Rule.{Part, recordSize, spaceRecord, rowAt, rowsAt, twoAt, fine, wholeTo, rowFault, recordsFault, Section, countFault, sectionFault, sectionEnd, spaceSection, trackSection, itemSection, mostItems, tracksAt, itemsAt, sheetEnd, sheetFault}
+use Rattle.kinds.specs.Kinds.{spaceRow, spaceOf}
+use Rattle.sheet.specs.Content.{sectionBytes}
+use Rattle.sheet.specs.RoundTrip.{AreBytes}
+use Rattle.sheet.proofs.Firsts.{fine-both, fine-test, fine-whole}
+use Rattle.sheet.proofs.Stands.{Stands, stands-join, two-stands, rows-stand, length-rowsAt, width, width-rowAt}
+use Rattle.sheet.proofs.SpaceRow.{row-of-space}
+
+-- records without fault are wholly there
+records-whole : (parts : List Part) (bytes : List ℕ) (n p : ℕ) → p ≤ length bytes → recordsFault parts bytes n p ≡ fine → p + n * recordSize parts ≤ length bytes
+unfolding recordsFault
+records-whole parts bytes zero p h e = omega arith
+records-whole parts bytes (suc n) p h e =
+    let here = fine-both (wholeTo bytes (p + recordSize parts)) _ e in
+    let rest = fine-both (rowFault parts (rowAt parts bytes p) p) _ (here .1) in
+    omega (arith, records-whole parts bytes n (p + recordSize parts) (fine-whole bytes _ (here .0)) (rest .1))
+
+module _ (section : Section) (bytes : List ℕ) (p : ℕ) where
+  -- a count without fault
+  pub record CountFine : Type 0 where
+    pub whole : p + 2 ≤ length bytes
+    pub allowed : section .allows (twoAt bytes p) ≡ true
+
+  pub count-fine : countFault section bytes p ≡ fine → CountFine
+  count-fine e =
+      let f = fine-both (wholeTo bytes (p + 2)) _ e in
+      record { whole = fine-whole bytes (p + 2) (f .0); allowed = fine-test (section .allows (twoAt bytes p)) 3 p (f .1) }
+
+  -- a section without fault
+  pub record SectionFine : Type 0 where
+    pub count : CountFine
+    pub records : recordsFault (section .parts) bytes (twoAt bytes p) (p + 2) ≡ fine
+    pub ends : sectionEnd section bytes p ≤ length bytes
+
+  pub section-fine : sectionFault section bytes p ≡ fine → SectionFine
+  section-fine e =
+      let f = fine-both (countFault section bytes p) _ e in
+      let c = count-fine (f .0) in
+      record { count = c; records = f .1; ends = records-whole (section .parts) bytes (twoAt bytes p) (p + 2) (c .whole) (f .1) }
+
+  -- the bytes of its rows stand there
+  pub section-stands : AreBytes bytes → SectionFine
+      → Stands bytes p (sectionBytes (section .parts) (rowsAt (section .parts) bytes (twoAt bytes p) (p + 2))) (drop (sectionEnd section bytes p) bytes)
+  section-stands small f =
+      rw (length-rowsAt (section .parts) bytes (twoAt bytes p) (p + 2)) (stands-join _ _ (two-stands small p (f .count .whole)) (rows-stand small (section .parts) (twoAt bytes p) (p + 2) (f .ends)))
+
+-- ---- the sheet
+
+pub record Accepted (bytes : List ℕ) : Type 0 where
+  pub space : SectionFine spaceSection bytes 0
+  pub tracks : SectionFine trackSection bytes tracksAt
+  pub items : SectionFine itemSection bytes (itemsAt bytes)
+  pub oneSpace : twoAt bytes 0 ≡ 1
+  pub spaceFine : rowFault spaceRecord (rowAt spaceRecord bytes 2) 2 ≡ fine
+  pub fewTracks : twoAt bytes tracksAt ≤ mostTracks
+  pub fewItems : twoAt bytes (itemsAt bytes) ≤ mostItems
+  pub noneOver : length bytes ≤ sheetEnd bytes
+
+module _ (bytes : List ℕ) where
+  pub accepted : sheetFault bytes ≡ fine → Accepted bytes
+  unfolding sheetFault recordsFault
+  accepted e =
+      let s = fine-both (sectionFault spaceSection bytes 0) _ e in
+      let t = fine-both (sectionFault trackSection bytes tracksAt) _ (s .1) in
+      let i = fine-both (sectionFault itemSection bytes (itemsAt bytes)) _ (t .1) in
+      let space = section-fine spaceSection bytes 0 (s .0) in
+      let tracks = section-fine trackSection bytes tracksAt (t .0) in
+      let items = section-fine itemSection bytes (itemsAt bytes) (i .0) in
+      let one = eqb-true (twoAt bytes 0) 1 (space .count .allowed) in
+      let inSpace = fine-both (wholeTo bytes (2 + recordSize spaceRecord)) _ (rw one at (space .records)) in
+      record {
+        space = space;
+        tracks = tracks;
+        items = items;
+        oneSpace = one;
+        spaceFine = fine-both (rowFault spaceRecord (rowAt spaceRecord bytes 2) 2) _ (inSpace .1) .0;
+        fewTracks = leb-true _ _ (tracks .count .allowed);
+        fewItems = leb-true _ _ (items .count .allowed);
+        noneOver = leb-true _ _ (fine-test (leb (length bytes) (sheetEnd bytes)) _ _ (i .1));
+      }
+
+  -- the space that is read says its row again
+  pub space-row-of-accepted : sheetFault bytes ≡ fine → spaceRow (spaceOf (rowAt spaceRecord bytes 2)) ≡ rowAt spaceRecord bytes 2
+  unfolding width
+  space-row-of-accepted e = row-of-space (rowAt spaceRecord bytes 2) 2 (width-rowAt spaceRecord bytes 2) (accepted e .spaceFine)

@@ -1,0 +1,47 @@
+-- The first of two faults: when there is none, and what each test of the rule says then. Assumes nothing.
+use mathlib.Core.Path.{_≡_, refl}
+use mathlib.Core.Bool.{Bool, true, false}
+use Prim.Native.Nat.{ℕ, _≤_}
+use mathlib.Core.List.{List}
+use lib.Dec.{leb}
+use lib.ListN.{length}
+use borrow.Author.Tests.{leb-true, le-leb}
+use Rattle.sheet.specs.Rule.{Fault, fine, fault, first, unless, wholeTo}
+
+pub first-fine : (f : Fault) → first f fine ≡ f
+first-fine fine = refl
+first-fine (fault number place) = refl
+
+pub first-assoc : (f g h : Fault) → first (first f g) h ≡ first f (first g h)
+first-assoc fine g h = refl
+first-assoc (fault number place) g h = refl
+
+-- what comes behind a fault does not matter
+pub first-where : (f : Fault) {g h : Fault} → (f ≡ fine → g ≡ h) → first f g ≡ first f h
+first-where fine e = e refl
+first-where (fault number place) e = refl
+
+-- where the first of two is no fault, neither is one
+pub fine-both : (f g : Fault) → first f g ≡ fine → (f ≡ fine) × (g ≡ fine)
+fine-both fine g e = (refl, e)
+fine-both (fault number place) g e = (e, cc)
+
+pub fine-test : (t : Bool) (number place : ℕ) → unless t (fault number place) ≡ fine → t ≡ true
+fine-test true number place e = refl
+fine-test false number place e = cc
+
+-- ---- 3: a count that is not allowed
+
+-- no fault, so a count within its limit, and none behind it
+pub count-fine : (n most place : ℕ) (behind : Fault) → first (unless (leb n most) (fault 3 place)) behind ≡ fine → (n ≤ most) × (behind ≡ fine)
+count-fine n most place behind e =
+    let f = fine-both (unless (leb n most) (fault 3 place)) behind e in
+    (leb-true n most (fine-test (leb n most) 3 place (f .0)), f .1)
+
+-- ---- 1: the bytes end too early
+
+pub whole-fine : (bytes : List ℕ) (to : ℕ) → to ≤ length bytes → wholeTo bytes to ≡ fine
+whole-fine bytes to h = rw (le-leb to (length bytes) h)
+
+pub fine-whole : (bytes : List ℕ) (to : ℕ) → wholeTo bytes to ≡ fine → to ≤ length bytes
+fine-whole bytes to e = leb-true _ _ (fine-test (leb to (length bytes)) _ _ e)

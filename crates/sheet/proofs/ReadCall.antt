@@ -1,0 +1,70 @@
+-- The calls that read, case by case as the code goes. Assumes nothing.
+use mathlib.Core.Path.{_≡_, refl, sym, ap, ap₂, _∙_}
+use Prim.Native.Nat.{ℕ, _+_, _≤_}
+use mathlib.Core.List.{List}
+use lib.Dec.{leb}
+use lib.ListN.{length}
+use borrow.Author.Tests.{leb-true}
+use Rattle.sheet.specs.Rule.{Row, spaceRecord, trackRecord, itemRecord, rowAt, rowsAt, twoAt, Fault, fine, first, countFault, trackSection, itemSection, spaceSection, tracksAt, itemsAt, sheetEnd, Sheet, sheetAt, sheetFault, enough, onto, ReadOutcome, readOutcome, sheetRead, readFault, readAs, readCall, endAt, endCall}
+use Rattle.kinds.specs.Kinds.{spaceRow, spaceOf}
+use Rattle.sheet.specs.Answer.{refusalFault, faultOf, enoughRows, countsFault, readLeaves, endTold}
+use Rattle.kinds.specs.declared.Space.{Space}
+use Rattle.sheet.specs.declared.refusal.Refusal.{Refusal}
+use Rattle.sheet.specs.declared.reading.ReadAnswer.the-variants as answer
+use Rattle.sheet.specs.declared.EndAnswer.the-variants as end
+use Rattle.sheet.proofs.Firsts.{fine-both, fine-test}
+use Rattle.sheet.proofs.Stands.{length-rowsAt}
+use Rattle.sheet.proofs.Accepted.{Accepted, accepted, CountFine, count-fine, space-row-of-accepted}
+
+-- ---- reading
+
+module _ (bytes : List ℕ) (tracks items : List Row) where
+  pub read-refused : (refusal : Refusal) → refusalFault refusal ≡ readFault bytes tracks items → readLeaves (answer.Refused refusal) tracks items ≡ readCall bytes tracks items
+  unfolding readCall
+  read-refused refusal e = ap (λ (f : Fault). readAs f (sheetAt bytes) tracks items) e
+
+  -- a call that is not refused
+  pub record Readable : Type 0 where
+    pub isFine : sheetFault bytes ≡ fine
+    pub sheet : Accepted bytes
+    pub tracksFit : twoAt bytes tracksAt ≤ length tracks
+    pub itemsFit : twoAt bytes (itemsAt bytes) ≤ length items
+
+  module _ (e : readFault bytes tracks items ≡ fine) where
+    pub readable : Readable
+    readable =
+        let whole = fine-both (sheetFault bytes) _ e in
+        let few = fine-both (enough (twoAt bytes tracksAt) (length tracks)) _ (whole .1) in
+        record {
+          isFine = whole .0;
+          sheet = accepted bytes (whole .0);
+          tracksFit = leb-true _ _ (fine-test (leb (twoAt bytes tracksAt) (length tracks)) 6 0 (few .0));
+          itemsFit = leb-true _ _ (fine-test (leb (twoAt bytes (itemsAt bytes)) (length items)) 6 0 (few .1));
+        }
+
+    pub read-done : (space : Space) (n m place : ℕ) (ts is : List Row) → n ≡ twoAt bytes tracksAt → place ≡ itemsAt bytes → m ≡ twoAt bytes place
+        → ts ≡ onto (rowsAt trackRecord bytes n (tracksAt + 2)) tracks → is ≡ onto (rowsAt itemRecord bytes m (place + 2)) items
+        → space ≡ spaceOf (rowAt spaceRecord bytes 2) → readLeaves (answer.Sheet space n m) ts is ≡ readCall bytes tracks items
+    unfolding readCall sheetAt
+    read-done space n m place ts is en ep em et ei es =
+        let row : spaceRow space ≡ rowAt spaceRecord bytes 2 = ap spaceRow es ∙ space-row-of-accepted bytes (readable .isFine) in
+        let em′ : m ≡ twoAt bytes (itemsAt bytes) = em ∙ ap (twoAt bytes) ep in
+        rw (e, row, et, ei, em′, ep, en, length-rowsAt trackRecord bytes (twoAt bytes tracksAt) (tracksAt + 2), length-rowsAt itemRecord bytes (twoAt bytes (itemsAt bytes)) (itemsAt bytes + 2))
+
+-- ---- the end
+
+module _ (bytes : List ℕ) where
+  pub end-refused : (refusal : Refusal) → refusalFault refusal ≡ countsFault bytes → endTold (end.Refused refusal) ≡ endCall bytes
+  unfolding endCall
+  end-refused refusal e = rw (← e)
+
+  module _ (e : countsFault bytes ≡ fine) where
+    pub end-done : (place : ℕ) → place ≡ sheetEnd bytes → endTold (end.At place) ≡ endCall bytes
+    unfolding endCall
+    end-done place p = rw (e, p)
+
+    pub counts-whole : (tracksAt + 2 ≤ length bytes) × (itemsAt bytes + 2 ≤ length bytes)
+    counts-whole =
+        let s = fine-both (countFault spaceSection bytes 0) _ e in
+        let t = fine-both (countFault trackSection bytes tracksAt) _ (s .1) in
+        (count-fine trackSection bytes tracksAt (t .0) .whole, count-fine itemSection bytes (itemsAt bytes) (t .1) .whole)

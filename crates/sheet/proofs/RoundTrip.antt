@@ -1,0 +1,78 @@
+-- A sheet and its bytes give each other back, by themselves and through the calls; and a call refuses exactly where the rule
+-- has a fault. Assumes nothing.
+use mathlib.Core.Path.{_≡_, sym, _∙_}
+use mathlib.Core.Logic.{_↔_}
+use Prim.Native.Nat.{ℕ, _+_, _≤_}
+use mathlib.Core.List.{List, [], _∷_}
+use lib.ListN.{length, drop, drop-of-length-le}
+use borrow.Author.Tests.{le-leb}
+use Rattle.sheet.specs.Rule.{Row, recordSize, spaceRecord, trackRecord, itemRecord, spaceSection, trackSection, itemSection, twoAt, rowAt, rowsAt, tracksAt, itemsAt, Sheet, sheetAt, sheetBytes, Fault, fine, fault, sheetFault, readFault, readAs, readRefused, readSheet, readCall, writeFault, writeAs, writeRefused, writeOutcome, sheetWritten, onto, writeCall}
+use Rattle.sheet.specs.Content.{sectionBytes}
+use Rattle.sheet.specs.RoundTrip.{AreBytes, Shaped}
+use Rattle.sheet.proofs.Stands.{Stands, stands-whole, stands-join, width, width-rowAt, width-rowsAt}
+use Rattle.sheet.proofs.Content.{sections-of-sheet, written-fault, track-count, item-count, shaped-reads-back}
+use Rattle.sheet.proofs.RowFaults.{number-of-rows, of-sheet}
+use Rattle.sheet.proofs.Accepted.{accepted, section-stands}
+
+-- ---- bytes, their sheet, and back
+
+-- the rows that are read have as many numbers as their records say
+pub shaped-of-accepted : (bytes : List ℕ) → Shaped (sheetAt bytes)
+unfolding sheetAt width
+shaped-of-accepted bytes =
+    record {
+      ofSpace = width-rowAt spaceRecord bytes 2;
+      ofTracks = width-rowsAt trackRecord bytes (twoAt bytes tracksAt) (tracksAt + 2);
+      ofItems = width-rowsAt itemRecord bytes (twoAt bytes (itemsAt bytes)) (itemsAt bytes + 2);
+    }
+
+pub accepted-writes-back : (bytes : List ℕ) → AreBytes bytes → sheetFault bytes ≡ fine → sheetBytes (sheetAt bytes) ≡ bytes
+unfolding sheetAt rowsAt recordSize
+accepted-writes-back bytes small e =
+    let a = accepted bytes e in
+    let space : Stands bytes 0 (sectionBytes spaceRecord (rowAt spaceRecord bytes 2 ∷ [])) (drop tracksAt bytes) = rw (a .oneSpace) at (section-stands spaceSection bytes 0 small (a .space)) in
+    let tracks = section-stands trackSection bytes tracksAt small (a .tracks) in
+    let items = section-stands itemSection bytes (itemsAt bytes) small (a .items) in
+    let all = stands-join _ _ space (stands-join _ _ tracks items) in
+    sections-of-sheet (sheetAt bytes) ∙ sym (stands-whole all (drop-of-length-le bytes (a .noneOver)))
+
+-- of any shaped sheet, as it turns out: its bytes say it even where they have a fault
+pub written-reads-back : (sheet : Sheet) → Shaped sheet → sheetFault (sheetBytes sheet) ≡ fine → sheetAt (sheetBytes sheet) ≡ sheet
+written-reads-back sheet shaped e = shaped-reads-back sheet shaped
+
+-- ---- the same of the calls
+
+pub write-of-read : (bytes lent : List ℕ) → AreBytes bytes → sheetFault bytes ≡ fine → length bytes ≤ length lent
+    → writeCall (sheetAt bytes) lent ≡ writeOutcome (sheetWritten (length bytes)) (onto bytes lent)
+unfolding writeCall
+write-of-read bytes lent small e h = rw (accepted-writes-back bytes small e, e, le-leb (length bytes) (length lent) h)
+
+pub read-of-written : (sheet : Sheet) (tracks items : List Row) → Shaped sheet → sheetFault (sheetBytes sheet) ≡ fine
+    → length (sheet .tracks) ≤ length tracks → length (sheet .items) ≤ length items → readCall (sheetBytes sheet) tracks items ≡ readSheet sheet tracks items
+unfolding readCall
+read-of-written sheet tracks items shaped e t i =
+    rw (e, item-count sheet shaped, track-count sheet shaped, le-leb _ _ t, le-leb _ _ i, shaped-reads-back sheet shaped)
+
+-- ---- a call refuses exactly where there is a fault
+
+pub read-refused-iff-fault : (bytes : List ℕ) (tracks items : List Row) (number place : ℕ)
+    → (readCall bytes tracks items .told ≡ readRefused number place) ↔ (readFault bytes tracks items ≡ fault number place)
+unfolding readCall
+read-refused-iff-fault bytes tracks items number place = (go (readFault bytes tracks items), λ e. rw e)
+  where
+    go : (f : Fault) → readAs f (sheetAt bytes) tracks items .told ≡ readRefused number place → f ≡ fault number place
+    go fine e = cc
+    go (fault m q) e = cc
+
+pub write-refused-iff-fault : (sheet : Sheet) (lent : List ℕ) (number place : ℕ) → (writeCall sheet lent .told ≡ writeRefused number place) ↔ (writeFault sheet lent ≡ fault number place)
+unfolding writeCall
+write-refused-iff-fault sheet lent number place = (go (writeFault sheet lent), λ e. rw e)
+  where
+    go : (f : Fault) → writeAs f (sheetBytes sheet) lent .told ≡ writeRefused number place → f ≡ fault number place
+    go fine e = cc
+    go (fault m q) e = cc
+
+-- bytes that are written lack nothing and have nothing over: their fault, if any, is none of 1 and 2
+pub written-never-short-or-over : (sheet : Sheet) (number place : ℕ) → Shaped sheet → sheetFault (sheetBytes sheet) ≡ fault number place → (3 ≤ number) × (number ≤ 5)
+written-never-short-or-over sheet number place shaped e =
+    number-of-rows _ number place (of-sheet spaceRecord (sheet .space) 2 (sheet .tracks) (sheet .items)) (sym (written-fault sheet shaped) ∙ e)

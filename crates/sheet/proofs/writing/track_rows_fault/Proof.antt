@@ -1,0 +1,74 @@
+-- `track_rows_fault` finds the first fault of the rows. The loop's invariant: what is still to look at has the fault that all the
+-- rows have. Assumes nothing.
+use borrow.Author.Needs.{needs}
+use mathlib.Core.Path.{_≡_}
+use Prim.Native.Nat.{_+_, _*_, _-_, _≤_}
+use lib.ListN.{length}
+use Rattle.sheet.specs.Rule.{trackRecord, recordSize}
+use Rattle.sheet.proofs.RowWalks.{Searched, searched-none, searched-next, searched-found, searched-end}
+use Rattle.sheet.proofs.writing.track_rows_fault.Statement.{statement}
+use Rattle.sheet.proofs.writing.track_rows_fault.Tie as tie
+
+abbrev Inv-loop : tie.InvT-loop
+Inv-loop tracks from at₀ i₀ at i = (i ≤ length tracks) × (at ≡ from + i * 10) × Searched 4 trackRecord tracks from i at
+
+abbrev μ-loop : tie.MeasureT-loop
+μ-loop tracks from at₀ i₀ at i = length tracks - i
+
+loop-holds : tie.Need-loop-holds Inv-loop μ-loop
+loop-holds c = (search needs, search needs, searched-none _ _ _ _)
+
+mul-track-fault : tie.Need-mul-track-fault Inv-loop μ-loop
+mul-track-fault c = search needs
+
+shared-slice-copy-out-track-fault : tie.Need-shared-slice-copy-out-track-fault Inv-loop μ-loop
+shared-slice-copy-out-track-fault c = search needs
+
+track-fault-requires : tie.Need-track-fault-requires Inv-loop μ-loop
+track-fault-requires c κs = search needs
+
+is-fine-requires : tie.Need-is-fine-requires Inv-loop μ-loop
+is-fine-requires c κs = search needs
+
+returns : tie.Need-returns Inv-loop μ-loop
+returns c =
+    let look = c .before .before in
+    let turn = look .before .before in
+    searched-found _ _ _ _ _ _ (turn .before .loop .inv .2) (turn .loop-test .taken) _ (look .track-fault .ensures) (c .before .is-fine .ensures) (c .if1 .taken)
+
+add-at : tie.Need-add-at Inv-loop μ-loop
+add-at c = search needs
+
+add-i : tie.Need-add-i Inv-loop μ-loop
+add-i c = search needs
+
+loop-less : tie.Need-loop-less Inv-loop μ-loop
+loop-less c = search needs
+
+loop-again : tie.Need-loop-again Inv-loop μ-loop
+unfolding recordSize
+loop-again c =
+    let look = c .before .before in
+    let turn = look .before .before in
+    (search needs, search needs, searched-next _ trackRecord _ _ _ _ (turn .before .loop .inv .2) (turn .loop-test .taken) _ (look .track-fault .ensures) (c .before .is-fine .ensures) (c .if1 .left))
+
+returns-2 : tie.Need-returns-2 Inv-loop μ-loop
+returns-2 c = searched-end _ _ _ _ _ _ (c .before .loop .inv .2) (c .loop-test .left)
+
+pub track-rows-fault-spec : {M : Type 1} → statement M
+track-rows-fault-spec =
+    tie.close
+    (tie.spec
+    Inv-loop
+    μ-loop
+    loop-holds
+    mul-track-fault
+    shared-slice-copy-out-track-fault
+    track-fault-requires
+    is-fine-requires
+    returns
+    add-at
+    add-i
+    loop-less
+    loop-again
+    returns-2)

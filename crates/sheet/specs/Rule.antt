@@ -1,0 +1,314 @@
+-- The sheet: what its bytes say, what refuses them, and the bytes that say it. This page follows the build paper's section
+-- 'The sheet' and numbers 1 to 6 of its table, in their order. It assumes nothing of the code and it computes.
+use Prim.Native.Nat.{ℕ, zero, suc, _+_, _*_, _/_, _%_}
+use mathlib.Core.Bool.{Bool, true, false, cond, _||_, _&&_}
+use mathlib.Core.List.{List, [], _∷_, _++_}
+use lib.Dec.{leb, eqb}
+use lib.ListN.{length, getD, drop}
+use Rattle.fill.specs.Rule.{mostTracks}
+
+-- ---- Numbers, little-endian
+
+abbrev pub byteAt : List ℕ → ℕ → ℕ
+byteAt bytes at = getD bytes at 0
+
+abbrev pub twoAt : List ℕ → ℕ → ℕ
+twoAt bytes at = byteAt bytes at + 256 * byteAt bytes (at + 1)
+
+abbrev pub fourAt : List ℕ → ℕ → ℕ
+fourAt bytes at = twoAt bytes at + 65536 * twoAt bytes (at + 2)
+
+unfoldable pub twoBytes : ℕ → List ℕ
+twoBytes n = n % 256 ∷ n / 256 ∷ []
+
+unfoldable pub fourBytes : ℕ → List ℕ
+fourBytes n = twoBytes (n % 65536) ++ twoBytes (n / 65536)
+
+-- ---- Tags
+
+-- The tags that carry a number, and those that carry none.
+pub record Tags : Type 0 where
+  pub carrying : List ℕ
+  pub bare : List ℕ
+
+abbrev pub tags : List ℕ → List ℕ → Tags
+tags carrying bare = record { carrying = carrying; bare = bare }
+
+-- definite; min-content, max-content
+abbrev pub constraintTags : Tags
+constraintTags = tags (1 ∷ []) (2 ∷ 3 ∷ [])
+
+-- given; absent
+abbrev pub givenTags : Tags
+givenTags = tags (1 ∷ []) (0 ∷ [])
+
+-- fixed; auto, min-content, max-content
+abbrev pub minimumTags : Tags
+minimumTags = tags (1 ∷ []) (2 ∷ 3 ∷ 4 ∷ [])
+
+-- fixed, fit-content, fr; auto, min-content, max-content
+abbrev pub maximumTags : Tags
+maximumTags = tags (1 ∷ 5 ∷ 6 ∷ []) (2 ∷ 3 ∷ 4 ∷ [])
+
+abbrev pub stretchBytes : List ℕ
+stretchBytes = 0 ∷ 1 ∷ []
+
+-- ---- Records, each of parts in fixed order
+
+pub data Part : Type 0 where
+  -- a tag, and a u32
+  tagged : Tags → Part
+  -- a byte, one of these
+  mark : List ℕ → Part
+  -- two u16, which a row keeps as the halves of one number, the first as the lower half
+  pair : Part
+
+abbrev pub partSize : Part → ℕ
+partSize (tagged tags) = 5
+partSize (mark listed) = 1
+partSize pair = 4
+
+unfoldable pub recordSize : List Part → ℕ
+recordSize [] = 0
+recordSize (part ∷ parts) = partSize part + recordSize parts
+
+-- constraint, inner size, stretch
+abbrev pub spaceRecord : List Part
+spaceRecord = tagged constraintTags ∷ tagged givenTags ∷ mark stretchBytes ∷ []
+
+-- minimum, maximum
+abbrev pub trackRecord : List Part
+trackRecord = tagged minimumTags ∷ tagged maximumTags ∷ []
+
+-- start and span, then the three contributions
+abbrev pub itemRecord : List Part
+itemRecord = pair ∷ tagged givenTags ∷ tagged givenTags ∷ tagged givenTags ∷ []
+
+-- A row is what a record says, its numbers in order.
+abbrev pub Row : Type 0
+Row = List ℕ
+
+unfoldable pub rowAt : List Part → List ℕ → ℕ → Row
+rowAt [] bytes at = []
+rowAt (tagged tags ∷ parts) bytes at = byteAt bytes at ∷ fourAt bytes (at + 1) ∷ rowAt parts bytes (at + 5)
+rowAt (mark listed ∷ parts) bytes at = byteAt bytes at ∷ rowAt parts bytes (at + 1)
+rowAt (pair ∷ parts) bytes at = fourAt bytes at ∷ rowAt parts bytes (at + 4)
+
+-- The bytes of a record that says this.
+unfoldable pub rowBytes : List Part → Row → List ℕ
+rowBytes (tagged tags ∷ parts) (tag ∷ n ∷ row) = tag ∷ (fourBytes n ++ rowBytes parts row)
+rowBytes (tagged tags ∷ parts) (tag ∷ []) = []
+rowBytes (mark listed ∷ parts) (n ∷ row) = n ∷ rowBytes parts row
+rowBytes (pair ∷ parts) (n ∷ row) = fourBytes n ++ rowBytes parts row
+rowBytes (part ∷ parts) [] = []
+rowBytes [] row = []
+
+-- so many records, one after another
+unfoldable pub rowsAt : List Part → List ℕ → ℕ → ℕ → List Row
+rowsAt parts bytes zero at = []
+rowsAt parts bytes (suc n) at = rowAt parts bytes at ∷ rowsAt parts bytes n (at + recordSize parts)
+
+unfoldable pub rowsBytes : List Part → List Row → List ℕ
+rowsBytes parts [] = []
+rowsBytes parts (row ∷ rows) = rowBytes parts row ++ rowsBytes parts rows
+
+-- ---- Faults, front to back: the first byte at fault decides
+
+-- No fault, or the refusal's number and place.
+pub data Fault : Type 0 where
+  fine : Fault
+  fault : (number place : ℕ) → Fault
+
+-- the first of two that is a fault
+abbrev pub first : Fault → Fault → Fault
+first fine next = next
+first (fault number place) next = fault number place
+
+abbrev pub unless : Bool → Fault → Fault
+unless true f = fine
+unless false f = f
+
+-- 1: the bytes end before `to`.
+abbrev pub wholeTo : List ℕ → ℕ → Fault
+wholeTo bytes to = unless (leb to (length bytes)) (fault 1 (length bytes))
+
+unfoldable pub isIn : ℕ → List ℕ → Bool
+isIn n [] = false
+isIn n (m ∷ ms) = eqb n m || isIn n ms
+
+-- 4: the tag is not listed. 5: it carries no number, and the number is not zero.
+unfoldable pub taggedFault : Tags → ℕ → ℕ → ℕ → Fault
+taggedFault tags tag n at =
+    cond (isIn tag (tags .carrying))
+    fine
+    (cond (isIn tag (tags .bare))
+    (unless (eqb n 0) (fault 5 (at + 1)))
+    (fault 4 at))
+
+-- a row whose record stands at a place
+unfoldable pub rowFault : List Part → Row → ℕ → Fault
+rowFault (tagged tags ∷ parts) (tag ∷ n ∷ row) at = first (taggedFault tags tag n at) (rowFault parts row (at + 5))
+rowFault (tagged tags ∷ parts) (tag ∷ []) at = fine
+rowFault (mark listed ∷ parts) (n ∷ row) at = first (unless (isIn n listed) (fault 4 at)) (rowFault parts row (at + 1))
+rowFault (pair ∷ parts) (n ∷ row) at = rowFault parts row (at + 4)
+rowFault (part ∷ parts) [] at = fine
+rowFault [] row at = fine
+
+-- so many records: 1 comes before a look inside
+unfoldable pub recordsFault : List Part → List ℕ → ℕ → ℕ → Fault
+recordsFault parts bytes zero at = fine
+recordsFault parts bytes (suc n) at =
+    first (wholeTo bytes (at + recordSize parts))
+    (first (rowFault parts (rowAt parts bytes at) at)
+    (recordsFault parts bytes n (at + recordSize parts)))
+
+-- ---- Sections, each after its two-byte count
+
+pub record Section : Type 0 where
+  pub allows : ℕ → Bool
+  pub parts : List Part
+
+abbrev pub mostItems : ℕ
+mostItems = 1024
+
+abbrev pub spaceSection : Section
+spaceSection = record { allows = λ (count : ℕ). eqb count 1; parts = spaceRecord }
+
+abbrev pub trackSection : Section
+trackSection = record { allows = λ (count : ℕ). leb count mostTracks; parts = trackRecord }
+
+abbrev pub itemSection : Section
+itemSection = record { allows = λ (count : ℕ). leb count mostItems; parts = itemRecord }
+
+-- 1: the count is not wholly there. 3: it is not allowed.
+abbrev pub countFault : Section → List ℕ → ℕ → Fault
+countFault section bytes at = first (wholeTo bytes (at + 2)) (unless (section .allows (twoAt bytes at)) (fault 3 at))
+
+abbrev pub sectionFault : Section → List ℕ → ℕ → Fault
+sectionFault section bytes at = first (countFault section bytes at) (recordsFault (section .parts) bytes (twoAt bytes at) (at + 2))
+
+abbrev pub sectionEnd : Section → List ℕ → ℕ → ℕ
+sectionEnd section bytes at = at + 2 + twoAt bytes at * recordSize (section .parts)
+
+-- ---- The sheet: space, tracks, items
+
+pub record Sheet : Type 0 where
+  pub space : Row
+  pub tracks : List Row
+  pub items : List Row
+
+-- where each section stands, and where the sheet ends
+abbrev pub tracksAt : ℕ
+tracksAt = 13
+
+abbrev pub itemsAt : List ℕ → ℕ
+itemsAt bytes = sectionEnd trackSection bytes tracksAt
+
+abbrev pub sheetEnd : List ℕ → ℕ
+sheetEnd bytes = sectionEnd itemSection bytes (itemsAt bytes)
+
+unfoldable pub sheetAt : List ℕ → Sheet
+sheetAt bytes =
+    record {
+      space = rowAt spaceRecord bytes 2;
+      tracks = rowsAt trackRecord bytes (twoAt bytes tracksAt) (tracksAt + 2);
+      items = rowsAt itemRecord bytes (twoAt bytes (itemsAt bytes)) (itemsAt bytes + 2);
+    }
+
+unfoldable pub sheetBytes : Sheet → List ℕ
+sheetBytes sheet =
+    twoBytes 1 ++ (rowBytes spaceRecord (sheet .space)
+    ++ (twoBytes (length (sheet .tracks)) ++ (rowsBytes trackRecord (sheet .tracks)
+    ++ (twoBytes (length (sheet .items)) ++ rowsBytes itemRecord (sheet .items)))))
+
+-- 2: bytes follow the items.
+abbrev pub overFault : List ℕ → Fault
+overFault bytes = unless (leb (length bytes) (sheetEnd bytes)) (fault 2 (sheetEnd bytes))
+
+unfoldable pub sheetFault : List ℕ → Fault
+sheetFault bytes =
+    first (sectionFault spaceSection bytes 0)
+    (first (sectionFault trackSection bytes tracksAt)
+    (first (sectionFault itemSection bytes (itemsAt bytes))
+    (overFault bytes)))
+
+-- ---- The calls
+
+-- 6: fewer places are lent than are wanted.
+abbrev pub enough : (wanted lent : ℕ) → Fault
+enough wanted lent = unless (leb wanted lent) (fault 6 0)
+
+-- the first places of what was lent are these, the others keep what they hold
+abbrev pub onto : {A : Type 0} → List A → List A → List A
+onto new lent = new ++ drop (length new) lent
+
+-- What reading tells: the space and the two counts, or the refusal; and what stands in the lent rows after it.
+pub data ReadTold : Type 0 where
+  sheetRead : (space : Row) (tracks items : ℕ) → ReadTold
+  readRefused : (number place : ℕ) → ReadTold
+
+pub record ReadOutcome : Type 0 where
+  pub told : ReadTold
+  pub tracks : List Row
+  pub items : List Row
+
+abbrev pub readOutcome : ReadTold → List Row → List Row → ReadOutcome
+readOutcome told tracks items = record { told = told; tracks = tracks; items = items }
+
+-- 1 to 5, then 6.
+abbrev pub readFault : List ℕ → List Row → List Row → Fault
+readFault bytes tracks items =
+    first (sheetFault bytes)
+    (first (enough (twoAt bytes tracksAt) (length tracks))
+    (enough (twoAt bytes (itemsAt bytes)) (length items)))
+
+abbrev pub readSheet : Sheet → List Row → List Row → ReadOutcome
+readSheet sheet tracks items =
+    readOutcome (sheetRead (sheet .space) (length (sheet .tracks)) (length (sheet .items))) (onto (sheet .tracks) tracks) (onto (sheet .items) items)
+
+abbrev pub readAs : Fault → Sheet → List Row → List Row → ReadOutcome
+readAs fine sheet tracks items = readSheet sheet tracks items
+readAs (fault number place) sheet tracks items = readOutcome (readRefused number place) tracks items
+
+unfoldable pub readCall : List ℕ → List Row → List Row → ReadOutcome
+readCall bytes tracks items = readAs (readFault bytes tracks items) (sheetAt bytes) tracks items
+
+-- What writing tells: the sheet's length, or the refusal; and what stands in the lent bytes after it.
+pub data WriteTold : Type 0 where
+  sheetWritten : (size : ℕ) → WriteTold
+  writeRefused : (number place : ℕ) → WriteTold
+
+pub record WriteOutcome : Type 0 where
+  pub told : WriteTold
+  pub bytes : List ℕ
+
+abbrev pub writeOutcome : WriteTold → List ℕ → WriteOutcome
+writeOutcome told bytes = record { told = told; bytes = bytes }
+
+-- 3 to 5 where its bytes would show them, then 6.
+abbrev pub writeFault : Sheet → List ℕ → Fault
+writeFault sheet lent = first (sheetFault (sheetBytes sheet)) (enough (length (sheetBytes sheet)) (length lent))
+
+abbrev pub writeAs : Fault → List ℕ → List ℕ → WriteOutcome
+writeAs fine bytes lent = writeOutcome (sheetWritten (length bytes)) (onto bytes lent)
+writeAs (fault number place) bytes lent = writeOutcome (writeRefused number place) lent
+
+unfoldable pub writeCall : Sheet → List ℕ → WriteOutcome
+writeCall sheet lent = writeAs (writeFault sheet lent) (sheetBytes sheet) lent
+
+-- The end of a sheet, from its counts alone: 1 where a count is not there, 3 where it is not allowed.
+pub data EndTold : Type 0 where
+  endAt : (place : ℕ) → EndTold
+  endRefused : (number place : ℕ) → EndTold
+
+abbrev pub endAs : Fault → ℕ → EndTold
+endAs fine end = endAt end
+endAs (fault number place) end = endRefused number place
+
+unfoldable pub endCall : List ℕ → EndTold
+endCall bytes =
+    endAs
+    (first (countFault spaceSection bytes 0)
+    (first (countFault trackSection bytes tracksAt)
+    (countFault itemSection bytes (itemsAt bytes))))
+    (sheetEnd bytes)

@@ -1,0 +1,43 @@
+// The sheet: its bytes are met here and nowhere else (specs/Rule.antt is the rule, docs/SHEET.md the format in words).
+mod numbers;
+mod reading;
+mod refusal;
+mod rows;
+mod sections;
+mod tags;
+mod writing;
+
+pub use kinds::Amount;
+pub use kinds::Constraint;
+pub use kinds::Contribution;
+pub use kinds::ContributionKind;
+pub use kinds::Item;
+pub use kinds::Maximum;
+pub use kinds::Minimum;
+pub use kinds::Space;
+pub use kinds::Track;
+pub use reading::ReadAnswer;
+pub use reading::read;
+use refusal::Fault;
+pub use refusal::Refusal;
+pub use writing::WriteAnswer;
+pub use writing::write;
+ghost use mathlib.Core.Path.{_≡_};
+ghost use Rattle.sheet.specs.Rule.{endCall};
+ghost use Rattle.sheet.specs.Answer.{endTold};
+
+pub enum EndAnswer {
+    At(usize),
+    Refused(Refusal),
+}
+
+// Where the sheet at the front of these bytes ends, by its three counts. Nothing else is read.
+pub fn end(bytes: &[u8]) -> EndAnswer
+    ensures { λ r. ⌜ endTold r ≡ endCall (now (bytes .entry)) ⌝ }
+{
+    let fault = sections::counts_fault(bytes);
+    if let Fault::Found(refusal) = fault {
+        return EndAnswer::Refused(refusal);
+    }
+    EndAnswer::At(sections::sheet_end(bytes))
+}

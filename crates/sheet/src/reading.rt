@@ -1,0 +1,84 @@
+// Reading: a sheet's bytes to the space and to lent rows. No row is written before every refusal has been ruled out.
+use crate::numbers::two_at;
+use crate::refusal::Fault;
+use crate::refusal::Refusal;
+use crate::rows;
+use crate::sections;
+use crate::sections::TRACKS_AT;
+use kinds::Space;
+ghost use mathlib.Core.Path.{_≡_};
+ghost use Prim.Native.Nat.{_+_, _*_, _≤_};
+ghost use lib.ListN.{length};
+ghost use Rattle.sheet.specs.Rule.{trackRecord, itemRecord, rowsAt, twoAt, tracksAt, itemsAt, sheetFault, fine, first, enough, onto, readCall};
+ghost use Rattle.sheet.specs.Answer.{faultOf, enoughRows, readLeaves};
+
+pub enum ReadAnswer {
+    Sheet {
+        space: Space,
+        tracks: usize,
+        items: usize,
+    },
+    Refused(Refusal),
+}
+
+pub fn read(bytes: &[u8], tracks: &mut [[u32; 4]], items: &mut [[u32; 7]]) -> ReadAnswer
+    ensures { λ r. ⌜ readLeaves r (now (tracks .exit)) (now (items .exit)) ≡ readCall (now (bytes .entry)) (now (tracks .entry)) (now (items .entry)) ⌝ }
+{
+    let fault = read_fault(bytes, tracks.len(), items.len());
+    if let Fault::Found(refusal) = fault {
+        return ReadAnswer::Refused(refusal);
+    }
+    let at = sections::items_at(bytes);
+    let track_count = two_at(bytes, TRACKS_AT) as usize;
+    let item_count = two_at(bytes, at) as usize;
+    read_tracks(bytes, TRACKS_AT + 2, track_count, tracks);
+    read_items(bytes, at + 2, item_count, items);
+    let space = Space::of_row(rows::space_at(bytes, 2));
+    ReadAnswer::Sheet {
+        space,
+        tracks: track_count,
+        items: item_count,
+    }
+}
+
+// 1 to 5, then 6.
+fn read_fault(bytes: &[u8], tracks: usize, items: usize) -> Fault
+    ensures { λ r. ⌜ faultOf r ≡ first (sheetFault (now (bytes .entry))) (enoughRows (now (bytes .entry)) tracks items) ⌝ }
+{
+    let fault = sections::sheet_fault(bytes);
+    if !fault.is_fine() {
+        return fault;
+    }
+    let at = sections::items_at(bytes);
+    let track_count = two_at(bytes, TRACKS_AT) as usize;
+    let item_count = two_at(bytes, at) as usize;
+    let few_tracks = Fault::unless(track_count <= tracks, Refusal::TooFewPlaces);
+    let few_items = Fault::unless(item_count <= items, Refusal::TooFewPlaces);
+    few_tracks.first(few_items)
+}
+
+fn read_tracks(bytes: &[u8], from: usize, count: usize, tracks: &mut [[u32; 4]])
+    requires { ⌜ (from + count * 10 ≤ length (now bytes)) × (count ≤ length (now tracks)) ⌝ }
+    ensures { λ _. ⌜ now (tracks .exit) ≡ onto (rowsAt trackRecord (now (bytes .entry)) count from) (now (tracks .entry)) ⌝ }
+{
+    let mut at = from;
+    let mut i = 0;
+    while i < count {
+        tracks[i] = rows::track_at(bytes, at);
+        at += rows::TRACK_SIZE;
+        i += 1;
+    }
+}
+
+fn read_items(bytes: &[u8], from: usize, count: usize, items: &mut [[u32; 7]])
+    requires { ⌜ (from + count * 19 ≤ length (now bytes)) × (count ≤ length (now items)) ⌝ }
+    ensures { λ _. ⌜ now (items .exit) ≡ onto (rowsAt itemRecord (now (bytes .entry)) count from) (now (items .entry)) ⌝ }
+{
+    let mut at = from;
+    let mut i = 0;
+    while i < count {
+        items[i] = rows::item_at(bytes, at);
+        at += rows::ITEM_SIZE;
+        i += 1;
+    }
+}

@@ -14,7 +14,7 @@ use Rattle.sheet.specs.Content.{sectionBytes}
 use Rattle.sheet.specs.RoundTrip.{AreBytes}
 use Rattle.sheet.proofs.Firsts.{fine-both, fine-test, fine-whole}
 use Rattle.sheet.proofs.Stands.{Stands, stands-join, two-stands, rows-stand, length-rowsAt, width, width-rowAt}
-use Rattle.sheet.proofs.SpaceRow.{row-of-space}
+use Rattle.sheet.proofs.KindRows.{row-of-space}
 
 -- records without fault are wholly there
 records-whole : (parts : List Part) (bytes : List ℕ) (n p : ℕ) → p ≤ length bytes → recordsFault parts bytes n p ≡ fine → p + n * recordSize parts ≤ length bytes

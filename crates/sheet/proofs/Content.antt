@@ -11,12 +11,12 @@ use Rattle.sheet.specs.Rule.{Row, recordSize, rowAt, rowsAt, rowFault, r
 use Rattle.sheet.specs.Answer.{sheetOf}
 use Rattle.sheet.specs.Content.{rowsFault, sectionBytes, tracksFault, itemsFault, itemsAfter, sheetSize, contentFault, Looked}
 use Rattle.sheet.specs.RoundTrip.{EachLong, Shaped}
-use Rattle.kinds.specs.declared.Space.{Space}
+use Rattle.kinds.specs.declared.space.Space.{Space}
 use Rattle.sheet.proofs.Firsts.{first-fine, first-where, fine-both, count-fine}
 use Rattle.sheet.proofs.Stands.{Stands, stands-front, stands-next, width}
 use Rattle.sheet.proofs.Looked.{looked-of-long, long-of-looked}
 use Rattle.sheet.proofs.SectionBytes.{length-sectionBytes, section-count, section-rows, section-end, section-fault}
-use Rattle.sheet.proofs.SpaceRow.{space-fine}
+use Rattle.sheet.proofs.KindRows.{space-fine}
 
 -- a sheet's bytes are those of its three sections
 pub sections-of-sheet : (sheet : Sheet) → sheetBytes sheet ≡ sectionBytes spaceRecord (sheet .space ∷ []) ++ (sectionBytes trackRecord (sheet .tracks) ++ sectionBytes itemRecord (sheet .items))

@@ -10,9 +10,11 @@ pub mod TagUses
 -- what a look for faults learns: each tag is a byte, and each row has its length
 pub mod Listed
 pub mod Looked
--- a section that stands at a place, and the row of a space
+-- a section that stands at a place
 pub mod SectionBytes
-pub mod SpaceRow
+-- a kind and its tag and number; a space, a track and an item and their rows
+pub mod TagCases
+pub mod KindRows
 -- records read into lent rows
 pub mod RowLoads
 -- the faults and the size of a sheet's bytes, from its rows
@@ -28,6 +30,8 @@ pub mod Accepted
 pub mod RoundTrip
 -- the calls that read, case by case
 pub mod ReadCall
+-- the rule at work on one sheet
+pub mod Example
 -- where a sheet ends, from its counts alone
 pub mod Ends
 -- an answer is the only one that tells what it tells

@@ -1,20 +1,20 @@
 -- The calls that read, case by case as the code goes. Assumes nothing.
-use mathlib.Core.Path.{_≡_, refl, sym, ap, ap₂, _∙_}
+use mathlib.Core.Path.{_≡_, ap, _∙_}
 use Prim.Native.Nat.{ℕ, _+_, _≤_}
 use mathlib.Core.List.{List}
 use lib.Dec.{leb}
 use lib.ListN.{length}
 use borrow.Author.Tests.{leb-true}
-use Rattle.sheet.specs.Rule.{Row, spaceRecord, trackRecord, itemRecord, rowAt, rowsAt, twoAt, Fault, fine, first, countFault, trackSection, itemSection, spaceSection, tracksAt, itemsAt, sheetEnd, Sheet, sheetAt, sheetFault, enough, onto, ReadOutcome, readOutcome, sheetRead, readFault, readAs, readCall, endAt, endCall}
+use Rattle.sheet.specs.Rule.{Row, spaceRecord, trackRecord, itemRecord, rowAt, rowsAt, twoAt, Fault, fine, countFault, trackSection, itemSection, spaceSection, tracksAt, itemsAt, sheetEnd, Sheet, sheetAt, sheetFault, enough, onto, readFault, readAs, readCall, endCall}
 use Rattle.kinds.specs.Kinds.{spaceRow, spaceOf}
-use Rattle.sheet.specs.Answer.{refusalFault, faultOf, enoughRows, countsFault, readLeaves, endTold}
-use Rattle.kinds.specs.declared.Space.{Space}
+use Rattle.sheet.specs.Answer.{refusalFault, countsFault, readLeaves, endTold}
+use Rattle.kinds.specs.declared.space.Space.{Space}
 use Rattle.sheet.specs.declared.refusal.Refusal.{Refusal}
 use Rattle.sheet.specs.declared.reading.ReadAnswer.the-variants as answer
 use Rattle.sheet.specs.declared.EndAnswer.the-variants as end
 use Rattle.sheet.proofs.Firsts.{fine-both, fine-test}
 use Rattle.sheet.proofs.Stands.{length-rowsAt}
-use Rattle.sheet.proofs.Accepted.{Accepted, accepted, CountFine, count-fine, space-row-of-accepted}
+use Rattle.sheet.proofs.Accepted.{Accepted, accepted, count-fine, space-row-of-accepted}
 
 -- ---- reading
 

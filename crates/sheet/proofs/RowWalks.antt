@@ -7,7 +7,7 @@ use mathlib.Core.List.{List, [], _∷_, _++_}
 use lib.ListN.{length, getD, drop, drop-of-length-le}
 use Rattle.laws.specs.Put.{put, put-none, put-then}
 use Rattle.laws.specs.Walk.{next}
-use Rattle.sheet.specs.Rule.{Part, Row, recordSize, rowBytes, rowsBytes, Fault, fine, first, rowFault}
+use Rattle.sheet.specs.Rule.{Part, Row, recordSize, rowBytes, rowsBytes, Fault, fine, rowFault}
 use Rattle.sheet.specs.Answer.{isFine}
 use Rattle.sheet.specs.Content.{rowsFault, LookedAt}
 use Rattle.sheet.proofs.Firsts.{fine-both}

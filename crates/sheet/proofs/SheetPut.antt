@@ -10,7 +10,7 @@ use Rattle.kinds.specs.Kinds.{spaceRow}
 use Rattle.sheet.specs.Answer.{sheetOf}
 use Rattle.sheet.specs.Content.{sectionBytes, itemsAfter}
 use Rattle.sheet.specs.RoundTrip.{EachLong}
-use Rattle.kinds.specs.declared.Space.{Space}
+use Rattle.kinds.specs.declared.space.Space.{Space}
 use Rattle.sheet.proofs.Stands.{width}
 use Rattle.sheet.proofs.SectionBytes.{length-sectionBytes}
 

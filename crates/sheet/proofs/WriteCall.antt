@@ -9,7 +9,7 @@ use borrow.Author.Tests.{leb-true}
 use Rattle.sheet.specs.Rule.{Row, Fault, fine, first, enough, sheetBytes, onto, sheetWritten, writeOutcome, writeFault, writeAs, writeCall}
 use Rattle.sheet.specs.Answer.{refusalFault, sheetOf, writeLeaves}
 use Rattle.sheet.specs.Content.{contentFault, sheetSize, Looked, Writable}
-use Rattle.kinds.specs.declared.Space.{Space}
+use Rattle.kinds.specs.declared.space.Space.{Space}
 use Rattle.sheet.specs.declared.refusal.Refusal.{Refusal}
 use Rattle.sheet.specs.declared.writing.WriteAnswer.the-variants as answer
 use Rattle.sheet.proofs.Firsts.{first-where, fine-both, fine-test}

@@ -7,7 +7,7 @@ use lib.Dec.{eqb}
 use Rattle.sheet.specs.Rule.{Row, Part, Tags, isIn, Fault, fine, fault, first, unless, spaceSection, trackSection, itemSection, twoAt, tracksAt, itemsAt, countFault, enough, Sheet, ReadTold, sheetRead, readRefused, ReadOutcome, readOutcome, WriteTold, sheetWritten, writeRefused, WriteOutcome, writeOutcome, EndTold, endAt, endRefused}
 use Rattle.sheet.specs.Rule as Rule
 use Rattle.kinds.specs.Kinds.{spaceRow}
-use Rattle.kinds.specs.declared.Space.{Space}
+use Rattle.kinds.specs.declared.space.Space.{Space}
 use Rattle.sheet.specs.declared.refusal.Refusal.{Refusal}
 use Rattle.sheet.specs.declared.refusal.Refusal.the-variants.{Short, BytesOver, Count, Tag, StrayNumber, TooFewPlaces}
 use Rattle.sheet.specs.declared.refusal.Fault as found

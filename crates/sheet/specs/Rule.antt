@@ -1,7 +1,7 @@
 -- The sheet: what its bytes say, what refuses them, and the bytes that say it. This page follows the build paper's section
 -- 'The sheet' and numbers 1 to 6 of its table, in their order. It assumes nothing of the code and it computes.
 use Prim.Native.Nat.{ℕ, zero, suc, _+_, _*_, _/_, _%_}
-use mathlib.Core.Bool.{Bool, true, false, cond, _||_, _&&_}
+use mathlib.Core.Bool.{Bool, true, false, cond, _||_}
 use mathlib.Core.List.{List, [], _∷_, _++_}
 use lib.Dec.{leb, eqb}
 use lib.ListN.{length, getD, drop}

@@ -4,12 +4,14 @@ use crate::refusal::Fault;
 use crate::refusal::Refusal;
 use crate::rows;
 use crate::sections;
+use crate::sections::COUNT_SIZE;
+use crate::sections::SPACE_AT;
 use crate::sections::TRACKS_AT;
 use kinds::Space;
 ghost use mathlib.Core.Path.{_≡_};
 ghost use Prim.Native.Nat.{_+_, _*_, _≤_};
 ghost use lib.ListN.{length};
-ghost use Rattle.sheet.specs.Rule.{trackRecord, itemRecord, rowsAt, twoAt, tracksAt, itemsAt, sheetFault, fine, first, enough, onto, readCall};
+ghost use Rattle.sheet.specs.Rule.{trackRecord, itemRecord, rowsAt, sheetFault, first, onto, readCall};
 ghost use Rattle.sheet.specs.Answer.{faultOf, enoughRows, readLeaves};
 
 pub enum ReadAnswer {
@@ -21,6 +23,7 @@ pub enum ReadAnswer {
     Refused(Refusal),
 }
 
+// Reads a sheet into lent rows. A refusal leaves every row as it is; rows past the counts always keep what they hold.
 pub fn read(bytes: &[u8], tracks: &mut [[u32; 4]], items: &mut [[u32; 7]]) -> ReadAnswer
     ensures { λ r. ⌜ readLeaves r (now (tracks .exit)) (now (items .exit)) ≡ readCall (now (bytes .entry)) (now (tracks .entry)) (now (items .entry)) ⌝ }
 {
@@ -31,9 +34,9 @@ pub fn read(bytes: &[u8], tracks: &mut [[u32; 4]], items: &mut [[u32; 7]]) -> Re
     let at = sections::items_at(bytes);
     let track_count = two_at(bytes, TRACKS_AT) as usize;
     let item_count = two_at(bytes, at) as usize;
-    read_tracks(bytes, TRACKS_AT + 2, track_count, tracks);
-    read_items(bytes, at + 2, item_count, items);
-    let space = Space::of_row(rows::space_at(bytes, 2));
+    read_tracks(bytes, TRACKS_AT + COUNT_SIZE, track_count, tracks);
+    read_items(bytes, at + COUNT_SIZE, item_count, items);
+    let space = Space::of_row(rows::space_at(bytes, SPACE_AT));
     ReadAnswer::Sheet {
         space,
         tracks: track_count,

@@ -9,11 +9,15 @@ ghost use mathlib.Core.Path.{_≡_};
 ghost use Prim.Native.Nat.{_+_, _≤_};
 ghost use lib.Dec.{leb};
 ghost use lib.ListN.{length};
-ghost use Rattle.sheet.specs.Rule.{recordSize, rowAt, rowFault, recordsFault, first, wholeTo, countFault, sectionFault, spaceSection, trackSection, itemSection, tracksAt, itemsAt, sheetEnd, sheetFault};
+ghost use Rattle.sheet.specs.Rule.{recordSize, rowAt, rowFault, recordsFault, first, wholeTo, countFault, sectionFault, tracksAt, itemsAt, sheetEnd, sheetFault};
 ghost use Rattle.sheet.specs.Answer.{faultOf, sectionOf, partsOf, countsFault};
 
-// Where the count of the tracks stands: behind one record of the space.
-pub(crate) const TRACKS_AT: usize = 13;
+// The bytes of a count.
+pub(crate) const COUNT_SIZE: usize = 2;
+// Where the record of the space stands, and behind it the count of the tracks.
+pub(crate) const SPACE_AT: usize = COUNT_SIZE;
+
+pub(crate) const TRACKS_AT: usize = SPACE_AT + rows::SPACE_SIZE;
 
 pub(crate) enum Section {
     Space,
@@ -80,7 +84,7 @@ impl Section {
     fn count_fault(self, bytes: &[u8], at: usize) -> Fault
         ensures { λ r. ⌜ faultOf r ≡ countFault (sectionOf self) (now (bytes .entry)) at ⌝ }
     {
-        if !reaches(bytes.len(), at, 2) {
+        if !reaches(bytes.len(), at, COUNT_SIZE) {
             return Fault::Found(Refusal::Short {
                 length: bytes.len(),
             });
@@ -97,7 +101,7 @@ impl Section {
             return fault;
         }
         let count = two_at(bytes, at) as usize;
-        self.records_fault(bytes, count, at + 2)
+        self.records_fault(bytes, count, at + COUNT_SIZE)
     }
 }
 
@@ -117,7 +121,7 @@ pub(crate) fn items_at(bytes: &[u8]) -> usize
     ensures { λ r. ⌜ r ≡ itemsAt (now (bytes .entry)) ⌝ }
 {
     let count = two_at(bytes, TRACKS_AT) as usize;
-    TRACKS_AT + 2 + count * rows::TRACK_SIZE
+    TRACKS_AT + COUNT_SIZE + count * rows::TRACK_SIZE
 }
 
 pub(crate) fn sheet_end(bytes: &[u8]) -> usize
@@ -126,7 +130,7 @@ pub(crate) fn sheet_end(bytes: &[u8]) -> usize
 {
     let at = items_at(bytes);
     let count = two_at(bytes, at) as usize;
-    at + 2 + count * rows::ITEM_SIZE
+    at + COUNT_SIZE + count * rows::ITEM_SIZE
 }
 
 // What is wrong with the three counts. Nothing else is read.

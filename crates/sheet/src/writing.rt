@@ -3,6 +3,8 @@ use crate::numbers::put_two;
 use crate::refusal::Fault;
 use crate::refusal::Refusal;
 use crate::rows;
+use crate::sections::COUNT_SIZE;
+use crate::sections::SPACE_AT;
 use crate::sections::TRACKS_AT;
 use kinds::Item;
 use kinds::Space;
@@ -22,6 +24,7 @@ pub enum WriteAnswer {
     Refused(Refusal),
 }
 
+// Writes a sheet into lent bytes. A refusal leaves every byte as it is; bytes past the sheet always keep what they hold.
 pub fn write(space: Space, tracks: &[[u32; 4]], items: &[[u32; 7]], bytes: &mut [u8]) -> WriteAnswer
     ensures { λ r. ⌜ writeLeaves r (now (bytes .exit)) ≡ writeCall (sheetOf space (now (tracks .entry)) (now (items .entry))) (now (bytes .entry)) ⌝ }
 {
@@ -62,7 +65,7 @@ fn tracks_fault(tracks: &[[u32; 4]]) -> Fault
     if tracks.len() > Track::MOST {
         return Fault::Found(Refusal::Count { at: TRACKS_AT });
     }
-    track_rows_fault(tracks, TRACKS_AT + 2)
+    track_rows_fault(tracks, TRACKS_AT + COUNT_SIZE)
 }
 
 fn items_fault(items: &[[u32; 7]], at: usize) -> Fault
@@ -72,7 +75,7 @@ fn items_fault(items: &[[u32; 7]], at: usize) -> Fault
     if items.len() > Item::MOST {
         return Fault::Found(Refusal::Count { at });
     }
-    item_rows_fault(items, at + 2)
+    item_rows_fault(items, at + COUNT_SIZE)
 }
 
 // A look at a row tells its length too: a row by value has that of its type, which a lent slice does not say of its rows.
@@ -115,14 +118,14 @@ fn items_after(tracks: usize) -> usize
     requires { ⌜ tracks ≤ mostTracks ⌝ }
     ensures { λ r. ⌜ r ≡ itemsAfter tracks ⌝ }
 {
-    TRACKS_AT + 2 + tracks * rows::TRACK_SIZE
+    TRACKS_AT + COUNT_SIZE + tracks * rows::TRACK_SIZE
 }
 
 fn sheet_size(tracks: usize, items: usize) -> usize
     requires { ⌜ (tracks ≤ mostTracks) × (items ≤ mostItems) ⌝ }
     ensures { λ r. ⌜ r ≡ sheetSize tracks items ⌝ }
 {
-    items_after(tracks) + 2 + items * rows::ITEM_SIZE
+    items_after(tracks) + COUNT_SIZE + items * rows::ITEM_SIZE
 }
 
 fn put_sheet(space: Space, tracks: &[[u32; 4]], items: &[[u32; 7]], bytes: &mut [u8])
@@ -130,7 +133,7 @@ fn put_sheet(space: Space, tracks: &[[u32; 4]], items: &[[u32; 7]], bytes: &mut 
     ensures { λ _. ⌜ now (bytes .exit) ≡ onto (sheetBytes (sheetOf space (now (tracks .entry)) (now (items .entry)))) (now (bytes .entry)) ⌝ }
 {
     put_two(1, bytes, 0);
-    rows::put_space(space.row(), bytes, 2);
+    rows::put_space(space.row(), bytes, SPACE_AT);
     put_tracks(tracks, bytes);
     put_items(items, bytes, items_after(tracks.len()));
 }
@@ -140,7 +143,7 @@ fn put_tracks(tracks: &[[u32; 4]], bytes: &mut [u8])
     ensures { λ _. ⌜ now (bytes .exit) ≡ put tracksAt (sectionBytes trackRecord (now (tracks .entry))) (now (bytes .entry)) ⌝ }
 {
     put_two(tracks.len() as u32, bytes, TRACKS_AT);
-    put_track_rows(tracks, bytes, TRACKS_AT + 2);
+    put_track_rows(tracks, bytes, TRACKS_AT + COUNT_SIZE);
 }
 
 fn put_items(items: &[[u32; 7]], bytes: &mut [u8], at: usize)
@@ -148,7 +151,7 @@ fn put_items(items: &[[u32; 7]], bytes: &mut [u8], at: usize)
     ensures { λ _. ⌜ now (bytes .exit) ≡ put at (sectionBytes itemRecord (now (items .entry))) (now (bytes .entry)) ⌝ }
 {
     put_two(items.len() as u32, bytes, at);
-    put_item_rows(items, bytes, at + 2);
+    put_item_rows(items, bytes, at + COUNT_SIZE);
 }
 
 fn put_track_rows(tracks: &[[u32; 4]], bytes: &mut [u8], from: usize)

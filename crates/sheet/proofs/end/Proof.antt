@@ -1,9 +1,8 @@
 -- `end` tells where the sheet ends by its counts, or what is wrong with these. Assumes nothing.
 use borrow.Author.Needs.{needs}
 use Rattle.sheet.proofs.ReadCall.{end-refused, end-done, counts-whole}
-use Rattle.sheet.specs.Answer.{faultOf, countsFault}
-use mathlib.Core.Path.{_≡_, sym, ap, _∙_}
-use Rattle.sheet.specs.Rule.{fine}
+use Rattle.sheet.specs.Answer.{faultOf}
+use mathlib.Core.Path.{sym, ap, _∙_}
 use Rattle.sheet.proofs.end.Statement.{statement}
 use Rattle.sheet.proofs.end.Tie as tie
 

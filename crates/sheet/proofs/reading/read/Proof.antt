@@ -2,10 +2,8 @@
 use borrow.Author.Needs.{needs}
 use Rattle.sheet.proofs.ReadCall.{read-refused, readable, read-done}
 use Rattle.sheet.specs.Answer.{faultOf}
-use mathlib.Core.Path.{_≡_, sym, ap, _∙_}
-use Rattle.sheet.specs.Rule.{recordSize, tracksAt, itemsAt, twoAt}
-use Prim.Native.Nat.{ℕ, _+_, _*_, _≤_}
-use lib.ListN.{length}
+use mathlib.Core.Path.{sym, ap, _∙_}
+use Rattle.sheet.specs.Rule.{recordSize}
 use native.Mathlib.Omega.{arith}
 use Rattle.kinds.specs.Kinds.{spaceOf}
 use Rattle.sheet.proofs.reading.read.Statement.{statement}

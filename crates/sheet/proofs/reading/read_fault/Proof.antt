@@ -1,9 +1,9 @@
 -- `read_fault` is what refuses a sheet: 1 to 5, then 6. Assumes nothing.
 use borrow.Author.Needs.{needs}
-use Rattle.sheet.specs.Rule.{sheetFault, tracksAt, itemsAt, twoAt, first, enough}
+use Rattle.sheet.specs.Rule.{itemsAt, twoAt, first, enough}
 use Rattle.sheet.proofs.Looks.{first-of-found, fine-of-passed, first-of-fine}
 use Rattle.sheet.proofs.Accepted.{accepted}
-use mathlib.Core.Path.{_≡_, sym, ap, ap₂, _∙_}
+use mathlib.Core.Path.{ap, ap₂, _∙_}
 use Prim.Native.Nat.{ℕ, _+_, _≤_}
 use lib.ListN.{length}
 use Rattle.sheet.proofs.reading.read_fault.Statement.{statement}

@@ -1,5 +1,4 @@
 -- `reaches` tells whether so many bytes stand at a place, with no sum that could be too large. Assumes nothing.
-use borrow.Author.Needs.{needs}
 use native.Mathlib.Omega.{arith}
 use mathlib.Core.Path.{sym}
 use borrow.Author.Tests.{lt-leb}

@@ -1,6 +1,5 @@
 -- `sheet_end` is where the sheet ends. Assumes nothing.
 use borrow.Author.Needs.{needs}
-use native.Mathlib.Omega.{arith}
 use Rattle.sheet.specs.Rule.{recordSize}
 use Rattle.sheet.proofs.sections.sheet_end.Statement.{statement}
 use Rattle.sheet.proofs.sections.sheet_end.Tie as tie

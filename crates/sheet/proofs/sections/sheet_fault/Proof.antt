@@ -3,7 +3,7 @@ use borrow.Author.Needs.{needs}
 use Rattle.sheet.specs.Rule.{sheetFault, sectionFault, trackSection, itemSection, tracksAt, itemsAt, unless, fault}
 use Rattle.sheet.proofs.Looks.{first-of-found, fine-of-passed, first-of-fine}
 use Rattle.sheet.proofs.Accepted.{section-fine}
-use mathlib.Core.Path.{sym, ap, _∙_}
+use mathlib.Core.Path.{ap, _∙_}
 use Prim.Native.Nat.{ℕ}
 use lib.Dec.{leb}
 use lib.ListN.{length}

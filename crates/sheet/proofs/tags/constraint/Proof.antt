@@ -1,5 +1,4 @@
 -- `constraint` says which use a tag has for its number: each listed tag in its turn. Assumes nothing.
-use borrow.Author.Needs.{needs}
 use borrow.Author.Tests.{ne-eqb}
 use Rattle.sheet.specs.Rule.{isIn}
 use Rattle.sheet.proofs.tags.constraint.Statement.{statement}

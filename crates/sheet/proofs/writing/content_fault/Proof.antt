@@ -6,7 +6,6 @@ use native.Mathlib.Omega.{arith}
 use lib.ListN.{length}
 use Rattle.fill.specs.Rule.{mostTracks}
 use Rattle.sheet.specs.Rule.{tracksAt, fine}
-use Rattle.sheet.specs.Answer.{isFine}
 use Rattle.sheet.specs.Content.{tracksFault, itemsFault, ItemsLooked}
 use Rattle.sheet.proofs.Firsts.{count-fine}
 use Rattle.sheet.proofs.Looks.{first-of-found, fine-of-passed, never-of-found, first-of-fine}

@@ -8,7 +8,7 @@ use Rattle.fill.specs.Rule.{mostTracks}
 use Rattle.sheet.specs.Rule.{Row, tracksAt, spaceRecord, itemRecord, rowFault, rowBytes, fine}
 use Rattle.sheet.specs.Content.{tracksFault, itemsFault, itemsAfter, sectionBytes}
 use Rattle.sheet.proofs.Firsts.{fine-both, count-fine}
-use Rattle.sheet.proofs.SpaceRow.{space-fine}
+use Rattle.sheet.proofs.KindRows.{space-fine}
 use Rattle.sheet.proofs.SheetPut.{put-parts}
 use Rattle.sheet.proofs.writing.put_sheet.Statement.{statement}
 use Rattle.sheet.proofs.writing.put_sheet.Tie as tie

@@ -3,7 +3,6 @@ use borrow.Author.Needs.{needs}
 use mathlib.Core.Path.{_≡_, ap, _∙_}
 use Prim.Native.Nat.{ℕ}
 use Rattle.sheet.specs.Rule.{fine, enough}
-use Rattle.sheet.specs.Answer.{isFine}
 use Rattle.sheet.specs.Content.{contentFault}
 use Rattle.sheet.proofs.Looks.{first-of-found, fine-of-passed, first-of-fine}
 use Rattle.sheet.proofs.Content.{counts-of-fine}

@@ -1,12 +1,11 @@
 -- `records_fault` is what is wrong with so many records: it goes on while there is none. Assumes nothing.
 use borrow.Author.Needs.{needs}
 use mathlib.Core.Path.{_≡_, refl, sym, ap, _∙_}
-use Prim.Native.Nat.{ℕ, _+_, _-_, _≤_}
+use Prim.Native.Nat.{ℕ, _+_, _-_}
 use native.Mathlib.Omega.{arith}
-use Rattle.sheet.specs.Rule.{recordSize, fine, recordsFault}
-use Rattle.sheet.specs.Answer.{partsOf, isFine}
+use Rattle.sheet.specs.Rule.{recordsFault}
+use Rattle.sheet.specs.Answer.{partsOf}
 use Rattle.sheet.proofs.Looks.{first-of-found, fine-of-passed, first-of-fine, recordFault, records-first, records-none, record-whole}
-use lib.ListN.{length}
 use Rattle.sheet.proofs.sections.Section.records_fault.Statement.{statement}
 use Rattle.sheet.proofs.sections.Section.records_fault.Tie as tie
 

@@ -1,0 +1,13 @@
+-- `Amount::of` is what a tag and its number say: each tag in its turn. Assumes nothing.
+use borrow.Author.Tests.{ne-eqb}
+use Rattle.kinds.proofs.amount.Amount.of.Statement.{statement}
+use Rattle.kinds.proofs.amount.Amount.of.Tie as tie
+
+returns : tie.Need-returns
+returns c = rw (c .if1 .taken)
+
+returns-2 : tie.Need-returns-2
+returns-2 c = simp (ne-eqb _ _ (c .if1 .left))
+
+pub of-spec : {M : Type 1} → statement M
+of-spec = tie.close (tie.spec returns returns-2)

@@ -25,7 +25,9 @@ pub(crate) fn four_at(bytes: &[u8], at: usize) -> u32
     requires { ⌜ at + 4 ≤ length (now bytes) ⌝ }
     ensures { λ r. ⌜ r ≡ fourAt (now (bytes .entry)) at ⌝ }
 {
-    two_at(bytes, at) + 65536 * two_at(bytes, at + 2)
+    let low = two_at(bytes, at);
+    let high = two_at(bytes, at + 2);
+    low + 65536 * high
 }
 
 pub(crate) fn put_byte(n: u32, bytes: &mut [u8], at: usize)

@@ -2,13 +2,15 @@
 // what it gives is compared with what the case wants.
 ghost use Prim.Native.Nat.{_≤_};
 ghost use lib.ListN.{length};
-ghost use Rattle.fill_vectors.specs.Reading.{Onward, Counted};
-use crate::compare::Wanted;
-use crate::cursor::Cursor;
-use crate::lists::read_marks;
-use crate::lists::read_numbers;
-use crate::numbers::read_mark;
-use crate::numbers::read_number;
+ghost use Rattle.cases.specs.Reading.{Onward, Counted};
+use crate::compare::is_given;
+use cases::Checked;
+use cases::Cursor;
+use cases::Wanted;
+use cases::read_expected;
+use cases::read_marks;
+use cases::read_number;
+use cases::read_numbers;
 
 // More than the most tracks, so that lists that are too long for the fill can be tried.
 const MOST_ENTRIES: usize = 300;
@@ -26,32 +28,6 @@ struct Gains {
     wanted: Wanted,
     after: usize,
     next: Cursor,
-}
-
-struct Expected {
-    wanted: Wanted,
-    next: Cursor,
-}
-
-pub struct Checked {
-    pub agrees: bool,
-    pub next: Cursor,
-}
-
-fn read_expected(text: &[u8], from: Cursor) -> Expected
-    requires { ⌜ from .at ≤ length (now text) ⌝ }
-    ensures { λ r. ⌜ Onward (now (text .entry)) (from .at) (r .next .at) ⌝ }
-{
-    let kind = read_mark(text, from);
-    let first = read_number(text, kind.next);
-    let second = read_number(text, first.next);
-    let next = second.next;
-    let wanted = Wanted {
-        is_refusal: kind.is_set,
-        first: first.value,
-        second: second.value,
-    };
-    Expected { wanted, next }
 }
 
 fn read_tracks(
@@ -118,7 +94,8 @@ pub fn check_case(text: &[u8], from: Cursor) -> Checked
     let gains_count = read.before;
     let after_count = read.after;
     let wanted = read.wanted;
-    let agrees = wanted.is_given(
+    let agrees = is_given(
+        wanted,
         dots.value,
         &affected[..affected_count],
         &limited[..limited_count],

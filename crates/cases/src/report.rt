@@ -1,0 +1,142 @@
+// What the program prints: the counts on standard output, or the fault on standard error.
+ghost use mathlib.Core.Path.{_≡_};
+ghost use mathlib.Core.Bool.{true, false};
+ghost use Prim.Native.Nat.{_≤_, _<_, _+_};
+ghost use lib.ListN.{length};
+use crate::cursor::Fault;
+use crate::spans::Run;
+use libc::STDERR_FILENO;
+use libc::STDOUT_FILENO;
+
+// How many cases there were and how many differ; of the first that differs its number, from 1,
+// and where its name stands.
+pub struct Tally {
+    pub cases: usize,
+    pub differ: usize,
+    pub first: usize,
+    pub name: usize,
+}
+
+impl Tally {
+    pub fn new() -> Self
+        ensures { λ r. ⌜ (r .cases ≡ 0) × (r .differ ≡ 0) × (r .name ≡ 0) ⌝ }
+    {
+        Tally {
+            cases: 0,
+            differ: 0,
+            first: 0,
+            name: 0,
+        }
+    }
+
+    pub fn counted(self, agrees: bool, name: usize) -> Self
+        requires { ⌜ (self .cases < 18446744073709551615) × (self .differ ≤ self .cases) × (self .name ≤ name) ⌝ }
+        ensures { λ r. ⌜ (r .cases ≡ self .cases + 1) × (r .differ ≤ r .cases) × (r .name ≤ name) ⌝ }
+        ensures { λ r. ⌜ (agrees ≡ true → r .differ ≡ self .differ) × (agrees ≡ false → r .differ ≡ self .differ + 1) ⌝ }
+    {
+        let cases = self.cases + 1;
+        if agrees {
+            return Tally {
+                cases,
+                differ: self.differ,
+                first: self.first,
+                name: self.name,
+            };
+        }
+        if self.differ == 0 {
+            return Tally {
+                cases,
+                differ: 1,
+                first: cases,
+                name,
+            };
+        }
+        Tally {
+            cases,
+            differ: self.differ + 1,
+            first: self.first,
+            name: self.name,
+        }
+    }
+}
+
+fn print_first(text: &[u8], number: usize, name: usize)
+    requires { ⌜ name ≤ length (now text) ⌝ }
+{
+    let end = Run::Line.end(text, name);
+    io::write_all(STDOUT_FILENO, b"first to differ: case ");
+    io::print_decimal(STDOUT_FILENO, number as u64);
+    io::write_all(STDOUT_FILENO, b",");
+    // The name begins with the blank after its '#'.
+    io::write_all(STDOUT_FILENO, &text[name..end]);
+    io::write_all(STDOUT_FILENO, b"\n");
+}
+
+pub fn print_tally(text: &[u8], tally: Tally)
+    requires { ⌜ (tally .differ ≤ tally .cases) × (tally .name ≤ length (now text)) ⌝ }
+{
+    let agree = tally.cases - tally.differ;
+    io::write_all(STDOUT_FILENO, b"cases ");
+    io::print_decimal(STDOUT_FILENO, tally.cases as u64);
+    io::write_all(STDOUT_FILENO, b" agree ");
+    io::print_decimal(STDOUT_FILENO, agree as u64);
+    io::write_all(STDOUT_FILENO, b" differ ");
+    io::print_decimal(STDOUT_FILENO, tally.differ as u64);
+    io::write_all(STDOUT_FILENO, b"\n");
+    if tally.differ > 0 {
+        print_first(text, tally.first, tally.name);
+    }
+}
+
+// Answers as io::write_all does.
+fn print_most(most: usize) -> bool {
+    io::write_all(STDERR_FILENO, b"the list has over ");
+    io::print_decimal(STDERR_FILENO, most as u64);
+    io::write_all(STDERR_FILENO, b" entries\n")
+}
+
+// What is wrong with a number, or else with something larger. Answers as io::write_all does.
+fn print_words(fault: Fault) -> bool {
+    match fault {
+        Fault::Number => io::write_all(STDERR_FILENO, b"a number was expected\n"),
+        Fault::Large => io::write_all(STDERR_FILENO, b"the number is over 4294967295\n"),
+        Fault::Mark => io::write_all(STDERR_FILENO, b"0 or 1 was expected\n"),
+        Fault::Times => io::write_all(
+            STDERR_FILENO,
+            b"1 to 4294967295 was expected before the x\n",
+        ),
+        Fault::Call => io::write_all(STDERR_FILENO, b"the number of a call was expected\n"),
+        _ => print_list_words(fault),
+    }
+}
+
+// What is wrong with a list, or else with the file.
+fn print_list_words(fault: Fault) -> bool {
+    match fault {
+        Fault::Byte => io::write_all(
+            STDERR_FILENO,
+            b"two digits of 0 to 9 and A to F were expected\n",
+        ),
+        Fault::List(most) => print_most(most),
+        Fault::Over => io::write_all(STDERR_FILENO, b"the list goes on behind its last entry\n"),
+        _ => print_file_words(fault),
+    }
+}
+
+fn print_file_words(fault: Fault) -> bool {
+    match fault {
+        Fault::Early => io::write_all(STDERR_FILENO, b"the file ends early\n"),
+        Fault::Case => io::write_all(STDERR_FILENO, b"the # of a case was expected\n"),
+        Fault::NoCase => io::write_all(STDERR_FILENO, b"the file has no case\n"),
+        Fault::TooLong => io::write_all(STDERR_FILENO, b"the file is too long\n"),
+        _ => true,
+    }
+}
+
+pub fn print_fault(program: &[u8], at: usize, fault: Fault) {
+    io::write_all(STDERR_FILENO, program);
+    io::write_all(STDERR_FILENO, b": byte ");
+    io::print_decimal(STDERR_FILENO, at as u64);
+    io::write_all(STDERR_FILENO, b": ");
+    print_words(fault);
+}

@@ -1,0 +1,50 @@
+// The space of a case, as the five numbers of its record.
+ghost use mathlib.Core.Path.{_≡_};
+ghost use mathlib.Core.Bool.{true};
+ghost use Prim.Native.Nat.{_≤_};
+ghost use lib.ListN.{length};
+ghost use Rattle.cases.specs.Reading.{Onward};
+ghost use Rattle.kinds.specs.Kinds.{spaceRow};
+use crate::rows::read_tagged;
+use cases::Cursor;
+use cases::read_number;
+use cases::same;
+use sheet::Space;
+
+pub struct SpaceRead {
+    pub row: [u32; 5],
+    pub next: Cursor,
+}
+
+// The five numbers, where the case has them.
+pub fn read_space(text: &[u8], from: Cursor, is_there: bool) -> SpaceRead
+    requires { ⌜ from .at ≤ length (now text) ⌝ }
+    ensures { λ r. ⌜ Onward (now (text .entry)) (from .at) (r .next .at) ⌝ }
+{
+    if !is_there {
+        return SpaceRead {
+            row: [0; 5],
+            next: from,
+        };
+    }
+    let constraint = read_tagged(text, from);
+    let inner = read_tagged(text, constraint.next);
+    let stretch = read_number(text, inner.next);
+    let next = stretch.next;
+    let row = [
+        constraint.tag,
+        constraint.number,
+        inner.tag,
+        inner.number,
+        stretch.value,
+    ];
+    SpaceRead { row, next }
+}
+
+// Whether this is the space that the five numbers say.
+pub fn is_space(space: Space, row: [u32; 5]) -> bool
+    ensures { λ r. ⌜ (r ≡ true → spaceRow space ≡ row) ⌝ }
+{
+    let its_row = space.row();
+    same(&its_row, &row)
+}

@@ -1,0 +1,756 @@
+"""Writes the cases of the sheet to standard output, worked out from the paper alone:
+
+    python3 oracle/sheet_cases.py > crates/sheet_vectors/data/cases.txt
+
+Each sheet is read front to back as the paper tells it. The refusal is then held to a second derivation, which gathers every
+fault of the sheet and takes the one that stands first, and an accepted sheet to its own bytes, written by another road. The
+same run gives the same bytes.
+
+A case in the file, of reading:
+
+    # NAME
+    0
+    N bytes           the sheet, in hex
+    N rows            the lent rows of tracks, before
+    N rows            the lent rows of items, before
+    KIND A B          0 TRACKS ITEMS for a sheet, with the space's five numbers in the next line; 1 NUMBER PLACE for a refusal
+    N rows            the rows of tracks, after
+    N rows            the rows of items, after
+
+of writing:
+
+    # NAME
+    1
+    T N T N S         the space: constraint tag and number, inner size tag and number, stretch
+    N rows            tracks
+    N rows            items
+    N bytes           the lent bytes, before
+    KIND A B          0 LENGTH 0 for a sheet, 1 NUMBER PLACE for a refusal
+    N bytes           the bytes, after
+
+and of the end:
+
+    # NAME
+    2
+    N bytes           a sheet, with or without bytes behind it
+    KIND A B          0 PLACE 0 for an end, 1 NUMBER PLACE for a refusal
+
+A track's row is its minimum tag and number and its maximum tag and number. An item's is start + 65536 * span, then three times
+tag and number. 4x before a row or a group of bytes says that it stands there four times.
+"""
+import sys
+
+MOST_TRACKS, MOST_ITEMS = 256, 1_024
+LARGEST = 4_294_967_295
+READ, WRITE, END = 0, 1, 2
+
+# What a tag may be, and whether it carries a number.
+CONSTRAINT = {1: True, 2: False, 3: False}
+GIVEN = {0: False, 1: True}
+MINIMUM = {1: True, 2: False, 3: False, 4: False}
+MAXIMUM = {1: True, 2: False, 3: False, 4: False, 5: True, 6: True}
+STRETCH = (0, 1)
+
+
+# ---- bytes, front to back
+
+
+class Refused(Exception):
+    def __init__(self, number, place):
+        super().__init__(number, place)
+        self.number, self.place = number, place
+
+
+class Reader:
+    """The bytes from the front, with the place of the next one."""
+
+    def __init__(self, data):
+        self.data, self.at = data, 0
+
+    def whole(self, size):
+        """So many bytes are there, or the sheet is short."""
+        if len(self.data) - self.at < size:
+            raise Refused(1, len(self.data))
+
+    def number(self, size):
+        value = int.from_bytes(self.data[self.at:self.at + size], 'little')
+        self.at += size
+        return value
+
+    def count(self, allowed):
+        self.whole(2)
+        place = self.at
+        count = self.number(2)
+        if count not in allowed:
+            raise Refused(3, place)
+        return count
+
+    def tagged(self, listed):
+        place = self.at
+        tag = self.number(1)
+        if tag not in listed:
+            raise Refused(4, place)
+        place = self.at
+        number = self.number(4)
+        if not listed[tag] and number != 0:
+            raise Refused(5, place)
+        return [tag, number]
+
+    def space(self):
+        self.whole(11)
+        row = self.tagged(CONSTRAINT) + self.tagged(GIVEN)
+        place = self.at
+        stretch = self.number(1)
+        if stretch not in STRETCH:
+            raise Refused(4, place)
+        return row + [stretch]
+
+    def track(self):
+        self.whole(10)
+        return self.tagged(MINIMUM) + self.tagged(MAXIMUM)
+
+    def item(self):
+        self.whole(19)
+        start, span = self.number(2), self.number(2)
+        return [start + 65_536 * span] + self.tagged(GIVEN) + self.tagged(GIVEN) + self.tagged(GIVEN)
+
+
+ONE, TRACK_COUNTS, ITEM_COUNTS = range(1, 2), range(MOST_TRACKS + 1), range(MOST_ITEMS + 1)
+
+
+def sheet_in(data):
+    """The space, the tracks and the items, or the refusal, 1 to 5."""
+    reader = Reader(data)
+    reader.count(ONE)
+    space = reader.space()
+    tracks = [reader.track() for _ in range(reader.count(TRACK_COUNTS))]
+    items = [reader.item() for _ in range(reader.count(ITEM_COUNTS))]
+    if reader.at < len(data):
+        raise Refused(2, reader.at)
+    return space, tracks, items
+
+
+def end_of(data):
+    """Where the sheet at the front ends: its three counts fix it, and nothing else is looked at."""
+    reader = Reader(data)
+    for allowed, size in ((ONE, 11), (TRACK_COUNTS, 10), (ITEM_COUNTS, 19)):
+        count = reader.count(allowed)
+        reader.at += size * count
+    return reader.at
+
+
+# ---- bytes of a sheet
+
+
+def u16(n):
+    return bytes([n % 256, n // 256])
+
+
+def tagged(tag, number):
+    return bytes([tag]) + number.to_bytes(4, 'little')
+
+
+def space_bytes(row):
+    return tagged(row[0], row[1]) + tagged(row[2], row[3]) + bytes([row[4]])
+
+
+def track_bytes(row):
+    return tagged(row[0], row[1]) + tagged(row[2], row[3])
+
+
+def item_bytes(row):
+    return u16(row[0] % 65_536) + u16(row[0] // 65_536) + tagged(row[1], row[2]) + tagged(row[3], row[4]) + tagged(row[5], row[6])
+
+
+def sheet_bytes(space, tracks, items):
+    return (
+        u16(1) + space_bytes(space)
+        + u16(len(tracks)) + b''.join(map(track_bytes, tracks))
+        + u16(len(items)) + b''.join(map(item_bytes, items))
+    )
+
+
+def rows_refusal(tracks, items):
+    """3 to 5, where the bytes of these rows would show them. A tag over 255 is no byte, and so not a listed one."""
+
+    def look(row, place, tags):
+        for listed, tag, number in tags:
+            if tag not in listed:
+                raise Refused(4, place)
+            if not listed[tag] and number != 0:
+                raise Refused(5, place + 1)
+            place += 5
+
+    place = 2 + 11
+    if len(tracks) > MOST_TRACKS:
+        raise Refused(3, place)
+    place += 2
+    for row in tracks:
+        look(row, place, ((MINIMUM, row[0], row[1]), (MAXIMUM, row[2], row[3])))
+        place += 10
+    if len(items) > MOST_ITEMS:
+        raise Refused(3, place)
+    place += 2
+    for row in items:
+        look(row, place + 4, ((GIVEN, row[1], row[2]), (GIVEN, row[3], row[4]), (GIVEN, row[5], row[6])))
+        place += 19
+
+
+# ---- the second derivation
+
+
+def all_faults(data):
+    """Every fault of a sheet, each with the byte at which it shows: of what is not wholly there, its first byte."""
+    faults = []
+    at = 0
+    for allowed, tags, skip in ((ONE, (CONSTRAINT, GIVEN), 0), (TRACK_COUNTS, (MINIMUM, MAXIMUM), 0), (ITEM_COUNTS, (GIVEN,) * 3, 4)):
+        if at + 2 > len(data):
+            return faults + [(at, 1, len(data))]
+        count = data[at] + 256 * data[at + 1]
+        if count not in allowed:
+            return faults + [(at, 3, at)]
+        at += 2
+        size = skip + 5 * len(tags) + (allowed is ONE)
+        for record in range(at, at + size * count, size):
+            if record + size > len(data):
+                faults.append((record, 1, len(data)))
+                continue
+            for k, listed in enumerate(tags):
+                place = record + skip + 5 * k
+                if data[place] not in listed:
+                    faults.append((place, 4, place))
+                elif not listed[data[place]] and any(data[place + 1:place + 5]):
+                    faults.append((place + 1, 5, place + 1))
+            if allowed is ONE and data[record + 10] > 1:
+                faults.append((record + 10, 4, record + 10))
+        at += size * count
+    if at < len(data):
+        faults.append((at, 2, at))
+    return faults
+
+
+def answer(call, *arguments):
+    """What a call gives, with the refusal or None."""
+    try:
+        return call(*arguments), None
+    except Refused as refused:
+        return None, (refused.number, refused.place)
+
+
+# ---- text
+
+
+def runs(entries):
+    """The entries, of which more than three of a kind in a row are written once."""
+    told = []
+    for entry in entries:
+        if told and told[-1][1] == entry:
+            told[-1][0] += 1
+        else:
+            told.append([1, entry])
+    return [word for times, entry in told for word in ([f'{times}x{entry}'] if times > 3 else [entry] * times)]
+
+
+def listed_rows(rows):
+    return ' '.join([str(len(rows))] + runs([' '.join(map(str, row)) for row in rows]))
+
+
+def groups(data):
+    """The bytes of a sheet as groups: counts, records, and in a sheet of few records their parts."""
+    found = []
+    at = 0
+    for parts in ((5, 5, 1), (5, 5), (2, 2, 5, 5, 5)):
+        count = int.from_bytes(data[at:at + 2], 'little')
+        found.append(data[at:at + 2])
+        at += 2
+        for _ in range(min(count, 2_000)):
+            record = data[at:at + sum(parts)]
+            at += sum(parts)
+            if count > 8 or not record:
+                found.append(record)
+                continue
+            for part in parts:
+                found.append(record[:part])
+                record = record[part:]
+    found.append(data[at:])
+    return [group.hex().upper() for group in found if group]
+
+
+def listed_sheet(data):
+    return ' '.join([str(len(data))] + runs(groups(data)))
+
+
+def listed_bytes(data, sheet=b''):
+    """Lent bytes, of which the first may be a sheet."""
+    assert data[:len(sheet)] == sheet
+    rest = data[len(sheet):]
+    pieces = [rest[at:at + 16].hex().upper() for at in range(0, len(rest), 16)]
+    return ' '.join([str(len(data))] + runs(groups(sheet) + pieces))
+
+
+# ---- what is lent: no zero, and nothing that a sheet would put there
+
+
+def lent_rows(count, width):
+    return [[61 + (k if t == 0 else 10 * min(t, 3) + k) for k in range(width)] for t in range(count)]
+
+
+def lent_bytes(count, start=0):
+    return bytes(161 + (start + k) % 16 for k in range(count))
+
+
+# ---- a case, with what holds of it
+
+
+class Cases:
+    def __init__(self):
+        self.names = set()
+        self.lines = []
+        self.number = {READ: 0, WRITE: 0, END: 0}
+        self.accepted = {}
+
+    def begin(self, call, name):
+        name = {READ: 'read', WRITE: 'write', END: 'end'}[call] + ' ' + name
+        assert name not in self.names and '\n' not in name, name
+        self.names.add(name)
+        self.number[call] += 1
+        self.lines += ['# ' + name, str(call)]
+
+    def read(self, name, data, tracks=2, items=2, want=None):
+        """Reading, with so many rows lent. An accepted sheet is kept, to be written. `want` is a refusal that the case is to show,
+        or True for a sheet."""
+        self.begin(READ, name)
+        sheet, refused = answer(sheet_in, data)
+        faults = all_faults(data)
+        assert refused == (min(faults)[1:] if faults else None), name
+        if sheet:
+            assert sheet_bytes(*sheet) == data, name
+            assert answer(rows_refusal, *sheet[1:])[1] is None and end_of(data) == len(data), name
+            self.accepted.setdefault(data, name)
+            if tracks < len(sheet[1]) or items < len(sheet[2]):
+                refused = (6, 0)
+        assert want is None or want == (refused or True), (name, refused)
+        track_rows, item_rows = lent_rows(tracks, 4), lent_rows(items, 7)
+        self.lines += [listed_sheet(data), listed_rows(track_rows), listed_rows(item_rows)]
+        if refused:
+            self.lines.append(f'1 {refused[0]} {refused[1]}')
+        else:
+            space, *read = sheet
+            self.lines += [f'0 {len(read[0])} {len(read[1])}', ' '.join(map(str, space))]
+            track_rows[:len(read[0])], item_rows[:len(read[1])] = read
+        self.lines += [listed_rows(track_rows), listed_rows(item_rows)]
+
+    def write(self, name, space, tracks, items, lent, want=None):
+        self.begin(WRITE, name)
+        data = b''
+        _, refused = answer(rows_refusal, tracks, items)
+        if not refused:
+            data = sheet_bytes(space, tracks, items)
+            assert answer(sheet_in, data)[0] == (space, tracks, items), name
+            if lent < len(data):
+                refused, data = (6, 0), b''
+        elif all(row[0] < 256 and row[2] < 256 for row in tracks) and all(max(row[1::2]) < 256 for row in items):
+            faults = all_faults(sheet_bytes(space, tracks, items))
+            assert refused == min(faults)[1:], name
+        assert want is None or want == (refused or True), (name, refused)
+        before = lent_bytes(lent)
+        self.lines += [' '.join(map(str, space)), listed_rows(tracks), listed_rows(items), listed_bytes(before)]
+        self.lines.append(f'1 {refused[0]} {refused[1]}' if refused else f'0 {len(data)} 0')
+        self.lines.append(listed_bytes(data + before[len(data):], data))
+
+    def end(self, name, data, want=None):
+        self.begin(END, name)
+        place, refused = answer(end_of, data)
+        sheet, first = answer(sheet_in, data)
+        assert sheet is None or place == len(data), name
+        assert first is None or first[0] != 2 or first[1] == place, name
+        assert want is None or want == (refused or place), (name, refused, place)
+        self.lines.append(listed_sheet(data))
+        self.lines.append(f'1 {refused[0]} {refused[1]}' if refused else f'0 {place} 0')
+
+
+# ---- the cases
+
+SPACE = [1, 100, 1, 100, 0]
+TRACK = [2, 0, 1, 0]
+ITEM = [65_536, 1, 30, 1, 30, 1, 30]
+W12 = bytes.fromhex(
+    '0100 0164000000 0164000000 00 0100 0200000000 0100000000 0100 0000 0100 011E000000 011E000000 011E000000'
+)
+VALUES = (0, 1, 2, 3, 4, 5, 6, 7, 255)
+
+
+def track(minimum, maximum):
+    return [*minimum, *maximum]
+
+
+def item(*contributions, start=0, span=1):
+    return [start + 65_536 * span] + [n for c in contributions for n in c]
+
+
+def with_byte(data, at, value):
+    return data[:at] + bytes([value]) + data[at + 1:]
+
+
+def paper(c):
+    assert len(W12) == 46 and sheet_bytes(SPACE, [TRACK], [ITEM]) == W12
+    c.read('W12', W12, want=True)
+    c.end('W12', W12, want=46)
+
+
+def truncations(c):
+    for length in range(46):
+        c.read(f'W12 cut to {length} bytes', W12[:length], want=(1, length))
+    for length in (0, 1, 12, 45):
+        c.read(f'W12 cut to {length} bytes, no rows lent', W12[:length], 0, 0, want=(1, length))
+
+
+def byte_edits(c):
+    for at in range(46):
+        for value in VALUES:
+            c.read(f'W12, byte {at} is {value}', with_byte(W12, at, value))
+
+
+def rows_lent(c):
+    for tracks, items in ((0, 0), (0, 1), (1, 0), (0, 3), (3, 0)):
+        c.read(f'W12 into {tracks} and {items} rows', W12, tracks, items, want=(6, 0))
+    for tracks, items in ((1, 1), (1, 2), (2, 1), (5, 4)):
+        c.read(f'W12 into {tracks} and {items} rows', W12, tracks, items, want=True)
+    for tracks, items in ((0, 0), (0, 1), (1, 0), (3, 3)):
+        c.read(f'no tracks and no items into {tracks} and {items} rows', sheet_bytes(SPACE, [], []), tracks, items, want=True)
+    several = sheet_bytes(SPACE, [TRACK] * 3, [ITEM] * 4)
+    for tracks, items, want in ((3, 4, True), (4, 5, True), (2, 4, (6, 0)), (3, 3, (6, 0)), (2, 3, (6, 0))):
+        c.read(f'3 tracks and 4 items into {tracks} and {items} rows', several, tracks, items, want=want)
+
+
+def counts(c):
+    none = sheet_bytes(SPACE, [], [])
+    c.read('no tracks and no items', none, want=True)
+    c.read('no tracks, 1 item', sheet_bytes(SPACE, [], [ITEM]), want=True)
+    c.read('1 track, no items', sheet_bytes(SPACE, [TRACK], []), want=True)
+    for count in (0, 2, 3, 256, 257, 65_535):
+        c.read(f'space count {count}', u16(count) + W12[2:], want=(3, 0))
+    c.read('space count 0 and no space', u16(0) + none[13:], want=(3, 0))
+    for tracks in (255, 256, 257):
+        many = [track((1, t), (1, t + 300)) if t in (0, tracks - 1) else TRACK for t in range(tracks)]
+        for items in (0, 1):
+            data = sheet_bytes(SPACE, many, [ITEM] * items)
+            if tracks > MOST_TRACKS:
+                c.read(f'{tracks} tracks, {items} items', data, want=(3, 13))
+                c.read(f'{tracks} tracks, {items} items, rows for all', data, tracks, items, want=(3, 13))
+                continue
+            c.read(f'{tracks} tracks, {items} items, just enough rows', data, tracks, items, want=True)
+            c.read(f'{tracks} tracks, {items} items, more rows', data, tracks + 2, items + 1, want=True)
+            c.read(f'{tracks} tracks, {items} items, a track row too few', data, tracks - 1, items, want=(6, 0))
+    for items in (1_023, 1_024, 1_025):
+        many = [item((1, i), (1, i + 1), (0, 0), start=i) if i in (0, items - 1) else ITEM for i in range(items)]
+        for tracks in (0, 2):
+            data = sheet_bytes(SPACE, [TRACK] * tracks, many)
+            if items > MOST_ITEMS:
+                c.read(f'{items} items, {tracks} tracks', data, want=(3, 15 + 10 * tracks))
+                c.read(f'{items} items, {tracks} tracks, rows for all', data, tracks, items, want=(3, 15 + 10 * tracks))
+                continue
+            c.read(f'{items} items, {tracks} tracks, just enough rows', data, tracks, items, want=True)
+            c.read(f'{items} items, {tracks} tracks, more rows', data, tracks + 1, items + 2, want=True)
+            c.read(f'{items} items, {tracks} tracks, an item row too few', data, tracks, items - 1, want=(6, 0))
+    most = sheet_bytes(SPACE, [TRACK] * 256, [ITEM] * 1_024)
+    c.read('the most tracks and items', most, 256, 1_024, want=True)
+    c.read('the most tracks and items, one byte short', most[:-1], 256, 1_024, want=(1, len(most) - 1))
+    c.read('the most tracks and items, one byte over', most + b'\0', 256, 1_024, want=(2, len(most)))
+    c.read('the most tracks and items, the last tag not listed', with_byte(most, len(most) - 5, 2), want=(4, len(most) - 5))
+    c.read('the most tracks and items, the last track stray', with_byte(most, 13 + 2 + 255 * 10 + 4, 1), want=(5, 13 + 2 + 255 * 10 + 1))
+    for count in (258, 512, 65_535):
+        c.read(f'a track count of {count}', W12[:13] + u16(count) + W12[15:], want=(3, 13))
+    for count in (1_026, 2_048, 65_535):
+        c.read(f'an item count of {count}', W12[:25] + u16(count) + W12[27:], want=(3, 25))
+    c.read('a track more than there is', W12[:13] + u16(2) + W12[15:])
+    c.read('an item more than there is', W12[:25] + u16(2) + W12[27:], want=(1, 46))
+    c.read('an item fewer than there is', W12[:25] + u16(0) + W12[27:], want=(2, 27))
+
+
+def stray_numbers(c):
+    """A number beside each tag that carries none, in each of its bytes."""
+    for name, sheet, place in bare_tags():
+        c.read(f'{name}, with zero', sheet, want=True)
+        for k in range(4):
+            c.read(f'{name}, with {256 ** k}', with_byte(sheet, place + k, 1), want=(5, place))
+        c.read(f'{name}, with {LARGEST}', sheet[:place] + b'\xff' * 4 + sheet[place + 4:], want=(5, place))
+
+
+def bare_tags():
+    """A sheet for each tag that carries no number, with the place of the number."""
+    for tag in (2, 3):
+        yield f'constraint {tag}', sheet_bytes([tag, 0, 1, 100, 1], [TRACK], [ITEM]), 3
+    yield 'inner size 0', sheet_bytes([1, 100, 0, 0, 1], [TRACK], [ITEM]), 8
+    for tag in (2, 3, 4):
+        yield f'minimum {tag}', sheet_bytes(SPACE, [track((tag, 0), (1, 7))], [ITEM]), 16
+    for tag in (2, 3, 4):
+        yield f'maximum {tag}', sheet_bytes(SPACE, [TRACK, track((1, 7), (tag, 0))], [ITEM]), 31
+    for k, word in enumerate(('minimum', 'min-content', 'max-content')):
+        three = [(1, 30)] * 3
+        three[k] = (0, 0)
+        yield f'{word} contribution 0', sheet_bytes(SPACE, [TRACK], [item(*three)]), 32 + 5 * k
+
+
+def bytes_over(c):
+    none = sheet_bytes(SPACE, [], [])
+    for name, sheet in (('W12', W12), ('no tracks and no items', none)):
+        for over, word in ((b'\0', 'a zero'), (b'\xff', '255'), (b'\1\0', 'two bytes'), (W12, 'W12')):
+            c.read(f'{name}, then {word}', sheet + over, want=(2, len(sheet)))
+
+
+def kinds(c):
+    """Every tag that is listed, with the smallest and the largest number where it carries one: the format does not limit it."""
+    for number in (0, 1, 65_536, LARGEST):
+        for constraint in (1, 2, 3):
+            for inner in (0, 1):
+                for stretch in (0, 1):
+                    space = [constraint, number * CONSTRAINT[constraint], inner, number * GIVEN[inner], stretch]
+                    if CONSTRAINT[constraint] or GIVEN[inner] or number == 0:
+                        c.read(f'space {" ".join(map(str, space))}', sheet_bytes(space, [TRACK], [ITEM]), want=True)
+        tracks = [track((a, number * MINIMUM[a]), (b, number * MAXIMUM[b])) for a in MINIMUM for b in MAXIMUM]
+        c.read(f'every pair of track kinds, with {number}', sheet_bytes(SPACE, tracks, [ITEM]), 24, 1, want=True)
+        three = [(number * GIVEN[a], number * GIVEN[b], number * GIVEN[d], a, b, d) for a in (0, 1) for b in (0, 1) for d in (0, 1)]
+        items = [item((a, x), (b, y), (d, z)) for x, y, z, a, b, d in three]
+        c.read(f'every row of contributions, with {number}', sheet_bytes(SPACE, [TRACK], items), 1, 8, want=True)
+    for kind, word in (((1, LARGEST), 'fixed'), ((5, LARGEST), 'fit-content'), ((6, LARGEST), 'fr')):
+        c.read(f'maximum {word} of {LARGEST}', sheet_bytes(SPACE, [track((2, 0), kind)], []), want=True)
+    c.read(f'minimum fixed of {LARGEST}', sheet_bytes(SPACE, [track((1, LARGEST), (2, 0))], []), want=True)
+    for start, span in ((0, 0), (0, 65_535), (65_535, 0), (65_535, 65_535), (258, 772)):
+        c.read(f'start {start}, span {span}', sheet_bytes(SPACE, [TRACK], [item((0, 0), (1, 1), (1, 2), start=start, span=span)]), want=True)
+    tracks = [track((1, 0x04030201), (5, 0x08070605)), track((3, 0), (6, 0x0C0B0A09))]
+    items = [item((1, 0x14131211), (0, 0), (1, 0x18171615), start=0x1A19, span=0x1C1B)]
+    c.read('every byte of a number another', sheet_bytes([1, 0x24232221, 1, 0x28272625, 1], tracks, items), want=True)
+
+
+def tags_not_listed(c):
+    for at, word, listed in (
+        (2, 'constraint', CONSTRAINT),
+        (7, 'inner size', GIVEN),
+        (12, 'stretch', STRETCH),
+        (15, 'minimum', MINIMUM),
+        (20, 'maximum', MAXIMUM),
+        (31, 'minimum contribution', GIVEN),
+        (36, 'min-content contribution', GIVEN),
+        (41, 'max-content contribution', GIVEN),
+    ):
+        for tag in (8, 16, 127, 128, 254):
+            c.read(f'{word} tag {tag}', with_byte(W12, at, tag), want=(4, at))
+    several = sheet_bytes(SPACE, [TRACK] * 3, [ITEM] * 3)
+    for at in (25, 30, 35, 40, 51, 56, 61, 70, 75, 80, 89, 94, 99):
+        c.read(f'3 tracks and 3 items, byte {at} is 9', with_byte(several, at, 9), want=(4, at))
+
+
+def which_fault(c):
+    """The first byte at fault decides, and 1 comes before a look inside."""
+
+    def edited(*edits, data=W12):
+        for at, value in edits:
+            data = with_byte(data, at, value)
+        return data
+
+    c.read('3 of the space before its tag', edited((0, 2), (2, 9)), want=(3, 0))
+    c.read('constraint tag before inner size tag', edited((2, 9), (7, 9)), want=(4, 2))
+    c.read('constraint tag before its number', edited((2, 0)), want=(4, 2))
+    c.read('stray constraint number before inner size tag', edited((2, 2), (7, 9)), want=(5, 3))
+    c.read('inner size tag before the stretch byte', edited((7, 9), (12, 9)), want=(4, 7))
+    c.read('stray inner size before the stretch byte', edited((7, 0), (12, 2)), want=(5, 8))
+    c.read('stretch byte before the track count', edited((12, 2), (14, 255)), want=(4, 12))
+    c.read('track count before a track', edited((14, 255), (15, 9)), want=(3, 13))
+    c.read('minimum tag before its number', edited((15, 0), (16, 1)), want=(4, 15))
+    c.read('stray minimum before maximum tag', edited((19, 1), (20, 9)), want=(5, 16))
+    c.read('maximum tag before the item count', edited((20, 0), (26, 255)), want=(4, 20))
+    c.read('stray maximum before the item count', edited((20, 3), (24, 1), (26, 255)), want=(5, 21))
+    c.read('item count before an item', edited((26, 4), (31, 9)), want=(3, 25))
+    c.read('item tag before the next', edited((31, 2), (36, 2)), want=(4, 31))
+    c.read('stray contribution before the next tag', edited((31, 0), (36, 2)), want=(5, 32))
+    c.read('item tag before bytes over', edited((41, 2)) + b'\0', want=(4, 41))
+    c.read('stray contribution before bytes over', edited((41, 0)) + b'\0', want=(5, 42))
+    two = sheet_bytes(SPACE, [TRACK] * 2, [ITEM] * 2)
+    c.read('the earlier track', edited((15, 9), (25, 9), data=two), want=(4, 15))
+    c.read('the earlier track, a number before a tag', edited((16, 1), (25, 9), data=two), want=(5, 16))
+    c.read('the earlier item', edited((41, 9), (60, 9), data=two), want=(4, 41))
+    c.read('the earlier item, a number before a tag', edited((41, 0), (60, 9), data=two), want=(5, 42))
+    c.read('a space cut short, with a tag not listed', edited((2, 9))[:12], want=(1, 12))
+    c.read('a whole space with a tag not listed, then nothing', edited((2, 9))[:13], want=(4, 2))
+    c.read('a stretch byte not listed, then nothing', edited((12, 7))[:13], want=(4, 12))
+    c.read('a stretch byte not listed, then half a count', edited((12, 7))[:14], want=(4, 12))
+    c.read('a track cut short, with a tag not listed', edited((15, 9))[:24], want=(1, 24))
+    c.read('a whole track with a tag not listed, then nothing', edited((15, 9))[:25], want=(4, 15))
+    c.read('a second track cut short, the first at fault', edited((15, 9), data=two)[:30], want=(4, 15))
+    c.read('a second track cut short, itself at fault', edited((25, 9), data=two)[:34], want=(1, 34))
+    c.read('an item cut short, with a tag not listed', edited((31, 9))[:45], want=(1, 45))
+    c.read('a second item cut short, the first at fault', edited((41, 0), data=two)[:60], want=(5, 42))
+    c.read('a second item cut short, itself at fault', edited((60, 9), data=two)[:74], want=(1, 74))
+    c.read('half a count of 255 tracks', edited((13, 255))[:14], want=(1, 14))
+    c.read('half a count of 255 items', edited((25, 255))[:26], want=(1, 26))
+    c.read('half a count of the space', b'\2', want=(1, 1))
+    c.read('a count of the space that is not allowed, then nothing', b'\2\0', want=(3, 0))
+    for tracks, items in ((0, 0), (0, 5), (5, 0)):
+        rows = f'{tracks} and {items} rows'
+        c.read(f'1 before 6, {rows}', W12[:45], tracks, items, want=(1, 45))
+        c.read(f'2 before 6, {rows}', W12 + b'\0', tracks, items, want=(2, 46))
+        c.read(f'3 before 6, {rows}', edited((26, 255)), tracks, items, want=(3, 25))
+        c.read(f'4 before 6, {rows}', edited((41, 2)), tracks, items, want=(4, 41))
+        c.read(f'5 before 6, {rows}', edited((41, 0)), tracks, items, want=(5, 42))
+
+
+def written_back(c):
+    """Each sheet that was accepted, into bytes of its length, one more and one fewer."""
+    for data, name in list(c.accepted.items()):
+        name = name.removeprefix('read ')
+        space, tracks, items = sheet_in(data)
+        c.write(f'{name}, into its length', space, tracks, items, len(data), want=True)
+        c.write(f'{name}, into one byte more', space, tracks, items, len(data) + 1, want=True)
+        c.write(f'{name}, into one byte fewer', space, tracks, items, len(data) - 1, want=(6, 0))
+
+
+def bytes_lent(c):
+    for lent in (0, 1, 2, 13, 15, 27):
+        c.write(f'W12 into {lent} bytes', SPACE, [TRACK], [ITEM], lent, want=(6, 0))
+    for lent in (48, 100, 1_000):
+        c.write(f'W12 into {lent} bytes', SPACE, [TRACK], [ITEM], lent, want=True)
+    c.write('no tracks and no items into 0 bytes', SPACE, [], [], 0, want=(6, 0))
+    c.write('the most tracks and items into 30,000 bytes', SPACE, [TRACK] * 256, [ITEM] * 1_024, 30_000, want=True)
+
+
+def rows_with_tags(c):
+    high = (255, 256, 257, 258, 261, 512, 65_536, 65_537, 16_777_217, LARGEST)
+    for tag in (0, 5, 6, 7) + high:
+        c.write(f'minimum tag {tag}', SPACE, [track((tag, 0), (1, 7))], [ITEM], 46, want=(4, 15))
+        c.write(f'minimum tag {tag} with a number, second track', SPACE, [TRACK, track((tag, 9), (1, 7))], [ITEM], 56, want=(4, 25))
+    for tag in (0, 7, 8) + high:
+        c.write(f'maximum tag {tag}', SPACE, [track((1, 7), (tag, 0))], [ITEM], 46, want=(4, 20))
+        c.write(f'maximum tag {tag} with a number, second track', SPACE, [TRACK, track((1, 7), (tag, 9))], [ITEM], 56, want=(4, 30))
+    for tag in (2, 3, 4, 7) + high:
+        for k, word in enumerate(('minimum', 'min-content', 'max-content')):
+            three = [(1, 30)] * 3
+            three[k] = (tag, 0)
+            c.write(f'{word} contribution tag {tag}', SPACE, [TRACK], [item(*three)], 46, want=(4, 31 + 5 * k))
+            three[k] = (tag, 9)
+            c.write(f'{word} contribution tag {tag} with a number, second item', SPACE, [], [ITEM, item(*three)], 55, want=(4, 40 + 5 * k))
+
+
+def rows_with_stray_numbers(c):
+    for number in (1, 256, 65_536, 16_777_216, LARGEST):
+        for tag in (2, 3, 4):
+            c.write(f'minimum {tag} with {number}', SPACE, [track((tag, number), (1, 7))], [ITEM], 46, want=(5, 16))
+            c.write(f'maximum {tag} with {number}', SPACE, [track((1, 7), (tag, number))], [ITEM], 46, want=(5, 21))
+        for k, word in enumerate(('minimum', 'min-content', 'max-content')):
+            three = [(1, 30)] * 3
+            three[k] = (0, number)
+            c.write(f'{word} contribution 0 with {number}', SPACE, [TRACK], [item(*three)], 46, want=(5, 32 + 5 * k))
+
+
+def rows_too_many(c):
+    for tracks in (257, 258, 300):
+        for items in (0, 1):
+            size = len(sheet_bytes(SPACE, [TRACK] * tracks, [ITEM] * items))
+            c.write(f'{tracks} tracks, {items} items', SPACE, [TRACK] * tracks, [ITEM] * items, size, want=(3, 13))
+    for items in (1_025, 1_026, 1_100):
+        for tracks in (0, 2, 256):
+            size = len(sheet_bytes(SPACE, [TRACK] * tracks, [ITEM] * items))
+            c.write(f'{items} items, {tracks} tracks', SPACE, [TRACK] * tracks, [ITEM] * items, size, want=(3, 15 + 10 * tracks))
+    c.write('257 tracks and 1,025 items', SPACE, [TRACK] * 257, [ITEM] * 1_025, 100, want=(3, 13))
+
+
+def which_fault_of_rows(c):
+    bad_minimum, bad_maximum = track((0, 0), (1, 7)), track((1, 7), (0, 0))
+    stray = track((2, 1), (1, 7))
+    bad_item, stray_item = item((2, 0), (1, 1), (1, 1)), item((0, 1), (1, 1), (1, 1))
+    c.write('3 of the tracks before a track', SPACE, [bad_minimum] * 257, [ITEM], 46, want=(3, 13))
+    c.write('3 of the tracks before 3 of the items', SPACE, [TRACK] * 257, [ITEM] * 1_025, 46, want=(3, 13))
+    c.write('a track before 3 of the items', SPACE, [bad_maximum], [ITEM] * 1_025, 46, want=(4, 20))
+    c.write('a stray number before 3 of the items', SPACE, [stray], [ITEM] * 1_025, 46, want=(5, 16))
+    c.write('3 of the items before an item', SPACE, [TRACK], [bad_item] * 1_025, 46, want=(3, 25))
+    c.write('a track before an item', SPACE, [TRACK, bad_minimum], [bad_item], 65, want=(4, 25))
+    c.write('a stray number before an item', SPACE, [stray], [bad_item], 46, want=(5, 16))
+    c.write('minimum tag before maximum tag', SPACE, [track((0, 0), (0, 0))], [ITEM], 46, want=(4, 15))
+    c.write('minimum tag before its number', SPACE, [track((0, 5), (1, 7))], [ITEM], 46, want=(4, 15))
+    c.write('stray minimum before maximum tag', SPACE, [track((2, 5), (0, 0))], [ITEM], 46, want=(5, 16))
+    c.write('the earlier track', SPACE, [TRACK, stray, bad_minimum], [ITEM], 66, want=(5, 26))
+    c.write('the earlier item', SPACE, [TRACK], [ITEM, stray_item, bad_item], 84, want=(5, 51))
+    c.write('the earlier contribution', SPACE, [TRACK], [item((1, 1), (2, 0), (0, 4))], 46, want=(4, 36))
+    c.write('the earlier contribution, stray', SPACE, [TRACK], [item((1, 1), (0, 4), (2, 0))], 46, want=(5, 37))
+    c.write('the last of 256 tracks', SPACE, [TRACK] * 255 + [bad_maximum], [bad_item], 2_600, want=(4, 13 + 2 + 2_550 + 5))
+    c.write('the last of 1,024 items', SPACE, [TRACK], [ITEM] * 1_023 + [stray_item], 20_000, want=(5, 27 + 1_023 * 19 + 5))
+    for lent in (0, 20, 45):
+        c.write(f'3 before 6, {lent} bytes', SPACE, [TRACK] * 257, [], lent, want=(3, 13))
+        c.write(f'3 of the items before 6, {lent} bytes', SPACE, [TRACK], [ITEM] * 1_025, lent, want=(3, 25))
+        c.write(f'4 before 6, {lent} bytes', SPACE, [TRACK], [bad_item], lent, want=(4, 31))
+        c.write(f'5 before 6, {lent} bytes', SPACE, [stray], [ITEM], lent, want=(5, 16))
+
+
+def ends(c):
+    none = sheet_bytes(SPACE, [], [])
+    several = sheet_bytes(SPACE, [TRACK] * 3, [ITEM] * 2)
+    most = sheet_bytes(SPACE, [TRACK] * 256, [ITEM] * 1_024)
+    for name, sheet in (
+        ('no tracks and no items', none),
+        ('1 track, no items', sheet_bytes(SPACE, [TRACK], [])),
+        ('no tracks, 1 item', sheet_bytes(SPACE, [], [ITEM])),
+        ('3 tracks and 2 items', several),
+        ('255 tracks', sheet_bytes(SPACE, [TRACK] * 255, [])),
+        ('256 tracks', sheet_bytes(SPACE, [TRACK] * 256, [])),
+        ('1,023 items', sheet_bytes(SPACE, [], [ITEM] * 1_023)),
+        ('1,024 items', sheet_bytes(SPACE, [], [ITEM] * 1_024)),
+        ('the most tracks and items', most),
+    ):
+        c.end(name, sheet, want=len(sheet))
+        c.end(f'{name}, then a byte', sheet + b'\0', want=len(sheet))
+        c.end(f'{name}, then W12', sheet + W12, want=len(sheet))
+    for over in (b'\0', b'\xff', b'\1\0', W12, none):
+        c.end(f'W12, then {len(over)} bytes, the first {over[0]}', W12 + over, want=46)
+    for length in range(27):
+        c.end(f'W12 cut to {length} bytes', W12[:length], want=(1, length))
+    for length in (27, 28, 45):
+        c.end(f'W12 cut to {length} bytes', W12[:length], want=46)
+    for count in (0, 2, 256, 257, 65_535):
+        c.end(f'space count {count}', u16(count) + W12[2:], want=(3, 0))
+    for count in (257, 258, 512, 65_535):
+        c.end(f'track count {count}', W12[:13] + u16(count) + W12[15:], want=(3, 13))
+    for count in (1_025, 1_026, 2_048, 65_535):
+        c.end(f'item count {count}', W12[:25] + u16(count) + W12[27:], want=(3, 25))
+        c.end(f'item count {count}, behind 3 tracks', several[:45] + u16(count) + several[47:], want=(3, 45))
+    c.end('space count 2, then nothing', b'\2\0', want=(3, 0))
+    c.end('track count 257, then nothing', W12[:13] + u16(257), want=(3, 13))
+    c.end('item count 1,025, then nothing', W12[:25] + u16(1_025), want=(3, 25))
+    c.end('half a track count of 255', W12[:13] + b'\xff', want=(1, 14))
+    c.end('half an item count of 255', W12[:25] + b'\xff', want=(1, 26))
+    c.end('3 of the space before 3 of the tracks', u16(0) + W12[2:13] + u16(300) + W12[15:], want=(3, 0))
+    c.end('3 of the tracks before 3 of the items', W12[:13] + u16(300) + W12[15:25] + u16(2_000) + W12[27:], want=(3, 13))
+    c.end('2 tracks, of which 1 is there', W12[:13] + u16(2) + W12[15:])
+    c.end('200 tracks, of which 1 is there', W12[:13] + u16(200) + W12[15:], want=(1, 46))
+    c.end('300 items, of which 1 is there', W12[:25] + u16(300) + W12[27:], want=27 + 300 * 19)
+    for at in (2, 7, 12, 15, 20, 31, 36, 41):
+        c.end(f'W12, tag at {at} not listed', with_byte(W12, at, 9), want=46)
+    c.end('W12, a stray number', with_byte(W12, 16, 1), want=46)
+
+
+def main():
+    c = Cases()
+    for group in (
+        paper,
+        truncations,
+        byte_edits,
+        rows_lent,
+        counts,
+        stray_numbers,
+        bytes_over,
+        kinds,
+        tags_not_listed,
+        which_fault,
+        written_back,
+        bytes_lent,
+        rows_with_tags,
+        rows_with_stray_numbers,
+        rows_too_many,
+        which_fault_of_rows,
+        ends,
+    ):
+        group(c)
+    sys.stdout.write('\n'.join(c.lines) + '\n')
+    print(f'{len(c.names)} cases: {c.number[READ]} of reading, {c.number[WRITE]} of writing, {c.number[END]} of the end', file=sys.stderr)
+
+
+main()

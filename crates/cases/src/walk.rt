@@ -1,5 +1,4 @@
 // The walk over the cases of the text, with the counts of those that agree and differ.
-ghost use mathlib.Core.Path.{_≡_};
 ghost use Prim.Native.Nat.{_+_, _≤_, _<_};
 ghost use lib.ListN.{length};
 ghost use Rattle.cases.specs.Reading.{Onward};

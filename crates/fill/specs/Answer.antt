@@ -12,7 +12,7 @@ use Rattle.fill.specs.declared.answer.Refusal.{Refusal}
 use Rattle.fill.specs.declared.answer.Refusal.the-variants.{Lists, Dots, Room}
 use Rattle.fill.specs.declared.answer.FillAnswer.{FillAnswer}
 use Rattle.fill.specs.declared.answer.FillAnswer.the-variants.{Filled, Refused}
-use Rattle.fill.specs.declared.kinds.Track.{Track}
+use Rattle.fill.specs.declared.limits.Track.{Track}
 use Rattle.fill.specs.declared.rests.Found.{Found}
 
 -- The paper's number of each refusal, and its place.

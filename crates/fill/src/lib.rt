@@ -3,15 +3,15 @@
 // The lent gains are the working store: they hold each track's rest while the rounds run, and its gain at the end. No
 // byte of them is written before every refusal has been ruled out.
 mod answer;
-mod kinds;
+mod limits;
 mod lists;
 mod rests;
 mod rounds;
 
 pub use answer::FillAnswer;
 pub use answer::Refusal;
-pub use kinds::Space;
-pub use kinds::Track;
+pub use limits::Space;
+pub use limits::Track;
 use rounds::Rounds;
 ghost use mathlib.Core.Path.{_≡_};
 ghost use Rattle.fill.specs.Rule.{filled, outcome, filledOutcome, fillLists, fillCall};

@@ -1,5 +1,5 @@
 // The walks over the call's own lists: what refuses them, each track's rest at the start, and its gain at the end.
-use crate::kinds::Track;
+use crate::limits::Track;
 use crate::rests::less;
 ghost use mathlib.Core.Path.{_≡_};
 ghost use Rattle.fill.specs.Rule.{tracksOf, firstOver, listsFit};

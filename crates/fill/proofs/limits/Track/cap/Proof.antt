@@ -1,7 +1,7 @@
 -- `Track::cap` meets its contract. Written out, so that an edit of it is refused here and not only in its callers. Assumes nothing.
 use borrow.Author.Needs.{needs}
-use Rattle.fill.proofs.kinds.Track.cap.Statement.{statement}
-use Rattle.fill.proofs.kinds.Track.cap.Tie as tie
+use Rattle.fill.proofs.limits.Track.cap.Statement.{statement}
+use Rattle.fill.proofs.limits.Track.cap.Tie as tie
 
 returns : tie.Need-returns
 returns c = search needs

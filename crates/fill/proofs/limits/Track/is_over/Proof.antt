@@ -3,8 +3,8 @@ use borrow.Author.Needs.{needs}
 use mathlib.Core.Path.{ap, _∙_}
 use lib.Dec.{ltb}
 use Rattle.fill.specs.Rule.{mostDots}
-use Rattle.fill.proofs.kinds.Track.is_over.Statement.{statement}
-use Rattle.fill.proofs.kinds.Track.is_over.Tie as tie
+use Rattle.fill.proofs.limits.Track.is_over.Statement.{statement}
+use Rattle.fill.proofs.limits.Track.is_over.Tie as tie
 
 new-requires : tie.Need-new-requires
 new-requires c κs = search needs

@@ -1,4 +1,4 @@
-// The kinds that the fill reads, each with the limit that bounds it: a space in dots, and a track.
+// What the fill reads, each with the limit that bounds it: a space in dots, and a track.
 ghost use mathlib.Core.Path.{_≡_};
 ghost use lib.Dec.{ltb};
 ghost use Rattle.fill.specs.Rule.{mostDots};

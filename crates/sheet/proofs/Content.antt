@@ -12,7 +12,7 @@ use Rattle.sheet.specs.Answer.{sheetOf}
 use Rattle.sheet.specs.Content.{rowsFault, sectionBytes, tracksFault, itemsFault, itemsAfter, sheetSize, contentFault, Looked}
 use Rattle.sheet.specs.RoundTrip.{EachLong, Shaped}
 use Rattle.kinds.specs.declared.space.Space.{Space}
-use Rattle.sheet.proofs.Firsts.{first-fine, first-where, fine-both, count-fine}
+use Rattle.sheet.proofs.Firsts.{first-fine, first-where, fine-both, le-of-count-fine}
 use Rattle.sheet.proofs.Stands.{Stands, stands-front, stands-next, width}
 use Rattle.sheet.proofs.Looked.{looked-of-long, long-of-looked}
 use Rattle.sheet.proofs.SectionBytes.{length-sectionBytes, section-count, section-rows, section-end, section-fault}
@@ -90,12 +90,12 @@ module _ (sheet : Sheet) (spaceLong : length (sheet .space) ≡ 5) where
   module _ (looked : Looked (sheet .tracks) (sheet .items)) where
     looked-tracks-long : tracksFault (sheet .tracks) ≡ fine → EachLong 4 (sheet .tracks)
     looked-tracks-long e =
-        let f = count-fine (length (sheet .tracks)) mostTracks tracksAt _ e in
+        let f = le-of-count-fine (length (sheet .tracks)) mostTracks tracksAt _ e in
         long-of-looked 4 trackRecord (sheet .tracks) (tracksAt + 2) (looked .atTracks (f .0)) (f .1)
 
     looked-items-long : tracksFault (sheet .tracks) ≡ fine → itemsFault (sheet .items) (itemsAfter (length (sheet .tracks))) ≡ fine → EachLong 7 (sheet .items)
     looked-items-long t e =
-        let f = count-fine (length (sheet .items)) mostItems (itemsAfter (length (sheet .tracks))) _ e in
+        let f = le-of-count-fine (length (sheet .items)) mostItems (itemsAfter (length (sheet .tracks))) _ e in
         long-of-looked 7 itemRecord (sheet .items) (itemsAfter (length (sheet .tracks)) + 2) (looked .atItems t (f .0)) (f .1)
 
     -- where no track has a fault, that of the items
@@ -152,7 +152,7 @@ module _ (sheet : Sheet) (shaped : Shaped sheet) where
 pub counts-of-fine : (tracks items : List Row) → contentFault tracks items ≡ fine → (length tracks ≤ mostTracks) × (length items ≤ mostItems)
 counts-of-fine tracks items e =
     let f = fine-both (tracksFault tracks) _ e in
-    (count-fine _ mostTracks tracksAt _ (f .0) .0, count-fine _ mostItems (itemsAfter (length tracks)) _ (f .1) .0)
+    (le-of-count-fine _ mostTracks tracksAt _ (f .0) .0, le-of-count-fine _ mostItems (itemsAfter (length tracks)) _ (f .1) .0)
 
 module _ (space : Space) (tracks items : List Row) (looked : Looked tracks items) where
   pub content-fault : sheetFault (sheetBytes (sheetOf space tracks items)) ≡ contentFault tracks items

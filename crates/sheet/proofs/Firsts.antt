@@ -33,8 +33,8 @@ fine-test false number place e = cc
 -- ---- 3: a count that is not allowed
 
 -- no fault, so a count within its limit, and none behind it
-pub count-fine : (n most place : ℕ) (behind : Fault) → first (unless (leb n most) (fault 3 place)) behind ≡ fine → (n ≤ most) × (behind ≡ fine)
-count-fine n most place behind e =
+pub le-of-count-fine : (n most place : ℕ) (behind : Fault) → first (unless (leb n most) (fault 3 place)) behind ≡ fine → (n ≤ most) × (behind ≡ fine)
+le-of-count-fine n most place behind e =
     let f = fine-both (unless (leb n most) (fault 3 place)) behind e in
     (leb-true n most (fine-test (leb n most) 3 place (f .0)), f .1)
 

@@ -17,9 +17,9 @@ use Rattle.sheet.proofs.Accepted.{accepted, section-stands}
 -- ---- bytes, their sheet, and back
 
 -- the rows that are read have as many numbers as their records say
-pub shaped-of-accepted : (bytes : List ℕ) → Shaped (sheetAt bytes)
+pub shaped-of-read : (bytes : List ℕ) → Shaped (sheetAt bytes)
 unfolding sheetAt width
-shaped-of-accepted bytes =
+shaped-of-read bytes =
     record {
       ofSpace = width-rowAt spaceRecord bytes 2;
       ofTracks = width-rowsAt trackRecord bytes (twoAt bytes tracksAt) (tracksAt + 2);
@@ -36,9 +36,9 @@ accepted-writes-back bytes small e =
     let all = stands-join _ _ space (stands-join _ _ tracks items) in
     sections-of-sheet (sheetAt bytes) ∙ sym (stands-whole all (drop-of-length-le bytes (a .noneOver)))
 
--- of any shaped sheet, as it turns out: its bytes say it even where they have a fault
-pub written-reads-back : (sheet : Sheet) → Shaped sheet → sheetFault (sheetBytes sheet) ≡ fine → sheetAt (sheetBytes sheet) ≡ sheet
-written-reads-back sheet shaped e = shaped-reads-back sheet shaped
+-- its bytes say it even where they have a fault, which is what refuses it
+pub written-reads-back : (sheet : Sheet) → Shaped sheet → sheetAt (sheetBytes sheet) ≡ sheet
+written-reads-back = shaped-reads-back
 
 -- ---- the same of the calls
 
@@ -51,7 +51,7 @@ pub read-of-written : (sheet : Sheet) (tracks items : List Row) → Shaped sheet
     → length (sheet .tracks) ≤ length tracks → length (sheet .items) ≤ length items → readCall (sheetBytes sheet) tracks items ≡ readSheet sheet tracks items
 unfolding readCall
 read-of-written sheet tracks items shaped e t i =
-    rw (e, item-count sheet shaped, track-count sheet shaped, le-leb _ _ t, le-leb _ _ i, shaped-reads-back sheet shaped)
+    rw (e, item-count sheet shaped, track-count sheet shaped, le-leb _ _ t, le-leb _ _ i, written-reads-back sheet shaped)
 
 -- ---- a call refuses exactly where there is a fault
 

@@ -1,6 +1,6 @@
 -- What an answer tells is what the case wants, where their parts are the same. Assumes nothing.
 use mathlib.Core.Path.{_≡_}
-use mathlib.Core.Bool.{Bool, true, false}
+use mathlib.Core.Bool.{Bool, false}
 use Prim.Native.Nat.{ℕ}
 use mathlib.Core.List.{List}
 use Rattle.sheet.specs.Rule.{Row, ReadTold, sheetRead, readOutcome, WriteTold, writeOutcome, writeCall}

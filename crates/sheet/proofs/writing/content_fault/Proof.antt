@@ -7,7 +7,7 @@ use lib.ListN.{length}
 use Rattle.fill.specs.Rule.{mostTracks}
 use Rattle.sheet.specs.Rule.{tracksAt, fine}
 use Rattle.sheet.specs.Content.{tracksFault, itemsFault, ItemsLooked}
-use Rattle.sheet.proofs.Firsts.{count-fine}
+use Rattle.sheet.proofs.Firsts.{le-of-count-fine}
 use Rattle.sheet.proofs.Looks.{first-of-found, fine-of-passed, never-of-found, first-of-fine}
 use Rattle.sheet.proofs.writing.content_fault.Statement.{statement}
 use Rattle.sheet.proofs.writing.content_fault.Tie as tie
@@ -28,7 +28,7 @@ tracks-fine : (c : tie.Else1) → tracksFault (c .before .before .before .args .
 tracks-fine c = fine-of-passed _ (c .before .before .tracks-fault .ensures .0) (c .before .is-fine .ensures) (c .if1 .left)
 
 few : (c : tie.Else1) → length (c .before .before .before .args .tracks .now) ≤ mostTracks
-few c = count-fine _ mostTracks tracksAt _ (tracks-fine c) .0
+few c = le-of-count-fine _ mostTracks tracksAt _ (tracks-fine c) .0
 
 items-after-requires : tie.Need-items-after-requires
 items-after-requires c κs = few c

@@ -7,13 +7,13 @@ use lib.ListN.{length}
 use Rattle.laws.specs.Put.{put-then}
 use Rattle.sheet.specs.Rule.{mostItems, itemRecord, rowsBytes, twoBytes, fine}
 use Rattle.sheet.specs.Content.{rowsFault}
-use Rattle.sheet.proofs.Firsts.{count-fine}
+use Rattle.sheet.proofs.Firsts.{le-of-count-fine}
 use Rattle.sheet.proofs.writing.put_items.Statement.{statement}
 use Rattle.sheet.proofs.writing.put_items.Tie as tie
 
 -- the count is allowed, and the rows have no fault
 sound : (s : tie.Start) → (length (s .args .items .now) ≤ mostItems) × (rowsFault itemRecord (s .args .items .now) ((s .args .at) + 2) ≡ fine)
-sound s = count-fine _ mostItems (s .args .at) _ (s .pre .0)
+sound s = le-of-count-fine _ mostItems (s .args .at) _ (s .pre .0)
 
 cast-put-two : tie.Need-cast-put-two
 cast-put-two c = let few = sound (c .before) .0 in search needs

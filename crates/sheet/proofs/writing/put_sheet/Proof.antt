@@ -7,7 +7,7 @@ use Rattle.laws.specs.Put.{put}
 use Rattle.fill.specs.Rule.{mostTracks}
 use Rattle.sheet.specs.Rule.{Row, tracksAt, spaceRecord, itemRecord, rowFault, rowBytes, fine}
 use Rattle.sheet.specs.Content.{tracksFault, itemsFault, itemsAfter, sectionBytes}
-use Rattle.sheet.proofs.Firsts.{fine-both, count-fine}
+use Rattle.sheet.proofs.Firsts.{fine-both, le-of-count-fine}
 use Rattle.sheet.proofs.KindRows.{space-fine}
 use Rattle.sheet.proofs.SheetPut.{put-parts}
 use Rattle.sheet.proofs.writing.put_sheet.Statement.{statement}
@@ -35,7 +35,7 @@ put-tracks-requires c κs =
 items-after-requires : tie.Need-items-after-requires
 items-after-requires c κs =
     let s = c .before .before .before .before .before .before .before .before .before .before .before .before .before .before .before in
-    count-fine _ mostTracks tracksAt _ (sound s .0) .0
+    le-of-count-fine _ mostTracks tracksAt _ (sound s .0) .0
 
 put-items-requires : tie.Need-put-items-requires
 put-items-requires c κs =

@@ -8,13 +8,13 @@ use Rattle.laws.specs.Put.{put-then}
 use Rattle.fill.specs.Rule.{mostTracks}
 use Rattle.sheet.specs.Rule.{tracksAt, trackRecord, rowsBytes, twoBytes, fine}
 use Rattle.sheet.specs.Content.{rowsFault}
-use Rattle.sheet.proofs.Firsts.{count-fine}
+use Rattle.sheet.proofs.Firsts.{le-of-count-fine}
 use Rattle.sheet.proofs.writing.put_tracks.Statement.{statement}
 use Rattle.sheet.proofs.writing.put_tracks.Tie as tie
 
 -- the count is allowed, and the rows have no fault
 sound : (s : tie.Start) → (length (s .args .tracks .now) ≤ mostTracks) × (rowsFault trackRecord (s .args .tracks .now) (tracksAt + 2) ≡ fine)
-sound s = count-fine _ mostTracks tracksAt _ (s .pre .0)
+sound s = le-of-count-fine _ mostTracks tracksAt _ (s .pre .0)
 
 cast-put-two : tie.Need-cast-put-two
 cast-put-two c = let few = sound (c .before) .0 in search needs

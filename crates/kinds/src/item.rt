@@ -2,7 +2,7 @@
 use crate::amount::Amount;
 ghost use mathlib.Core.Path.{_≡_};
 ghost use Prim.Native.Nat.{_<_};
-ghost use Rattle.kinds.specs.Kinds.{amountOf, contribution, isAbove, kindIndex, item, itemOf, amountAt, fallsIn};
+ghost use Rattle.kinds.specs.Kinds.{amountOf, contribution, isAbove, kindIndex, itemOf, amountAt, fallsIn};
 
 // The kinds of contribution, in the order of an item's row.
 pub enum ContributionKind {
@@ -13,7 +13,7 @@ pub enum ContributionKind {
 
 impl ContributionKind {
     // The kind's place in a row of three.
-    pub fn index(self) -> usize
+    fn index(self) -> usize
         ensures { λ r. ⌜ (r ≡ kindIndex self) × (r < 3) ⌝ }
     {
         match self {
@@ -64,12 +64,6 @@ impl Item {
     // The largest contribution.
     pub const MOST_CONTRIBUTION: u32 = 65_535;
 
-    pub fn new(start: u16, span: u16, row: [Contribution; 3]) -> Item
-        ensures { λ r. ⌜ r ≡ item start span row ⌝ }
-    {
-        Item { start, span, row }
-    }
-
     // The item that a row says; one without fault says no other. The row's first number has the start as its lower half and
     // the span as its upper one.
     pub fn of_row(row: [u32; 7]) -> Item
@@ -82,9 +76,10 @@ impl Item {
             Contribution::of(row[3], row[4]),
             Contribution::of(row[5], row[6]),
         ];
-        Item::new(start, span, row)
+        Item { start, span, row }
     }
 
+    // The contribution of a kind.
     pub fn amount(self, kind: ContributionKind) -> Amount
         ensures { λ r. ⌜ r ≡ amountAt self kind ⌝ }
     {

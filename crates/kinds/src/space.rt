@@ -2,7 +2,7 @@
 use crate::amount::Amount;
 ghost use mathlib.Core.Path.{_≡_};
 ghost use Rattle.laws.specs.Marks.{bit};
-ghost use Rattle.kinds.specs.Kinds.{constraintOf, constraintTag, constraintNumber, space, spaceOf, spaceRow};
+ghost use Rattle.kinds.specs.Kinds.{constraintOf, constraintTag, constraintNumber, spaceOf, spaceRow};
 
 // What the space asks of the board.
 pub enum Constraint {
@@ -68,16 +68,6 @@ impl Space {
     // The most dots of a space.
     pub const MOST: u32 = fill::Space::MOST;
 
-    pub fn new(constraint: Constraint, inner: Amount, stretch: bool) -> Space
-        ensures { λ r. ⌜ r ≡ space constraint inner stretch ⌝ }
-    {
-        Space {
-            constraint,
-            inner,
-            stretch,
-        }
-    }
-
     // The space that a row says; one without fault says no other.
     pub fn of_row(row: [u32; 5]) -> Space
         ensures { λ r. ⌜ r ≡ spaceOf row ⌝ }
@@ -85,7 +75,11 @@ impl Space {
         let constraint = Constraint::of(row[0], row[1]);
         let inner = Amount::of(row[2], row[3]);
         let stretch = row[4] == 1;
-        Space::new(constraint, inner, stretch)
+        Space {
+            constraint,
+            inner,
+            stretch,
+        }
     }
 
     pub fn row(self) -> [u32; 5]

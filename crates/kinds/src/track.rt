@@ -1,6 +1,6 @@
 // A track: its minimum and maximum as cases, and the limits that bound them.
 ghost use mathlib.Core.Path.{_≡_};
-ghost use Rattle.kinds.specs.Kinds.{minimumOf, maximumOf, track, trackOf};
+ghost use Rattle.kinds.specs.Kinds.{minimumOf, maximumOf, trackOf};
 
 pub enum Minimum {
     Fixed(u32),
@@ -95,18 +95,12 @@ impl Track {
     // What the float routines take for nothing.
     pub const THRESHOLD: f32 = 0.01;
 
-    pub fn new(minimum: Minimum, maximum: Maximum) -> Track
-        ensures { λ r. ⌜ r ≡ track minimum maximum ⌝ }
-    {
-        Track { minimum, maximum }
-    }
-
     // The track that a row says; one without fault says no other.
     pub fn of_row(row: [u32; 4]) -> Track
         ensures { λ r. ⌜ r ≡ trackOf row ⌝ }
     {
         let minimum = Minimum::of(row[0], row[1]);
         let maximum = Maximum::of(row[2], row[3]);
-        Track::new(minimum, maximum)
+        Track { minimum, maximum }
     }
 }

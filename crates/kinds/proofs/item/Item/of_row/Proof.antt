@@ -5,7 +5,6 @@ use native.Mathlib.Omega.{arith}
 use lib.ListN.{getD}
 use mir.Val.{Fits}
 use mir.Syntax.{w32}
-use mathlib.Core.Path.{_∙_}
 use Rattle.kinds.proofs.item.Item.of_row.Statement.{statement}
 use Rattle.kinds.proofs.item.Item.of_row.Tie as tie
 
@@ -49,11 +48,8 @@ array-read-of-6 c = search needs
 of-requires-3 : tie.Need-of-requires-3
 of-requires-3 c κs = search needs
 
-new-requires : tie.Need-new-requires
-new-requires c κs = search needs
-
 returns : tie.Need-returns
-returns c = c .new .ensures ∙ simp (c .before .of3 .ensures, c .before .before .of2 .ensures, c .before .before .before .of .ensures)
+returns c = simp (c .of3 .ensures, c .before .of2 .ensures, c .before .before .of .ensures)
 
 pub of-row-spec : {M : Type 1} → statement M
 of-row-spec =
@@ -72,5 +68,4 @@ of-row-spec =
     array-read-of-5
     array-read-of-6
     of-requires-3
-    new-requires
     returns)

@@ -24,9 +24,6 @@ of-requires-2 c κs = search needs
 array-read-stretch : tie.Need-array-read-stretch
 array-read-stretch c = search needs
 
-new-requires : tie.Need-new-requires
-new-requires c κs = search needs
-
 returns : tie.Need-returns
 returns c = cc
 
@@ -41,5 +38,4 @@ of-row-spec =
     array-read-of-4
     of-requires-2
     array-read-stretch
-    new-requires
     returns)

@@ -21,9 +21,6 @@ array-read-of-4 c = search needs
 of-requires-2 : tie.Need-of-requires-2
 of-requires-2 c κs = search needs
 
-new-requires : tie.Need-new-requires
-new-requires c κs = search needs
-
 returns : tie.Need-returns
 returns c = cc
 
@@ -37,5 +34,4 @@ of-row-spec =
     array-read-of-3
     array-read-of-4
     of-requires-2
-    new-requires
     returns)

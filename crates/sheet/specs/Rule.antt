@@ -197,7 +197,7 @@ pub record Sheet : Type 0 where
   pub tracks : List Row
   pub items : List Row
 
--- where each section stands, and where the sheet ends
+-- where each section stands, the tracks behind a count and the one record of the space; and where the sheet ends
 abbrev pub tracksAt : ℕ
 tracksAt = 13
 

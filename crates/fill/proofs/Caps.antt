@@ -24,7 +24,7 @@ tracks-length (a ∷ as′) (l ∷ ls) [] z = refl
 tracks-length (a ∷ as′) [] rs z = z .limited
 tracks-length [] ls rs z = z .affected
 
-caps-length-tracks : (dots : ℕ) (ts : List Track) → length (caps dots ts) ≡ length ts
+pub caps-length-tracks : (dots : ℕ) (ts : List Track) → length (caps dots ts) ≡ length ts
 unfolding caps
 caps-length-tracks dots [] = refl
 caps-length-tracks dots (t ∷ ts) = ap suc (caps-length-tracks dots ts)

@@ -19,3 +19,5 @@ pub mod Call
 pub mod Caps
 pub mod Unique
 pub mod Demand
+-- for who fills rests of his own
+pub mod Fresh

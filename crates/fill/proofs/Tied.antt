@@ -11,6 +11,7 @@ use lib.Dec.{ltb, eqb}
 use borrow.Author.Tests.{ltb-true, lt-ltb, ne-eqb}
 use Rattle.laws.specs.Marks.{bit, number}
 use Rattle.laws.specs.Runs.{runs-tied}
+use Rattle.laws.specs.Lists.{All}
 use Rattle.fill.specs.Rule.{Room, upTo, noLimit, Track, trackOf, tracksOf, gainsOf, hasRoom, opens, lower, leastRoom, within, oddTakers, takes, handOut, Fill, fillOf, round, more, fill, fillLists}
 use Rattle.fill.specs.Rests.{capOf, caps, openRests, lowered, leastRest, takeEach, openMarks, takeMarked, takeOdd, State, stateOf, shareOf, restRound, restMore, fillRests, lost}
 use Rattle.fill.proofs.OpenMarks.{Among, none, one, number-open, odd-among}
@@ -151,17 +152,26 @@ module _ (cs : List ℕ) (s : State) (f : Fill) where
 
 -- ---- the start and the end
 
-start-one : (d : ℕ) (a l : Bool) (r : ℕ) → TiedOne d (trackOf a l r) (capOf d (trackOf a l r)) (capOf d (trackOf a l r))
-start-one d true true r = (refl, omega arith)
-start-one d true false r = (le-refl d, omega arith)
-start-one d false l r = (refl, refl)
+start-one : (d : ℕ) (a : Bool) (r : Room) (g : ℕ) → g ≡ 0 → TiedOne d (trackWith a r g) (capOf d (trackWith a r g)) (capOf d (trackWith a r g))
+start-one d true (upTo r) g e = (refl, omega arith)
+start-one d true noLimit g e = (le-refl d, omega arith)
+start-one d false r g e = (refl, omega arith)
 
-start-tied : (d : ℕ) (as′ ls : List Bool) (rs : List ℕ) → Tied d (caps d (tracksOf as′ ls rs)) (caps d (tracksOf as′ ls rs)) (tracksOf as′ ls rs)
-unfolding caps tracksOf
-start-tied d (a ∷ as′) (l ∷ ls) (r ∷ rs) = let v = start-one d a l r in tie (v .0) (v .1) (start-tied d as′ ls rs)
-start-tied d (a ∷ as′) (l ∷ ls) [] = nil
-start-tied d (a ∷ as′) [] rs = nil
-start-tied d [] ls rs = nil
+-- tracks before the first round
+abbrev pub Fresh : List Track → Type 0
+Fresh = All (λ (t : Track). t .gain ≡ 0)
+
+start-tied : (d : ℕ) (ts : List Track) → Fresh ts → Tied d (caps d ts) (caps d ts) ts
+unfolding caps All
+start-tied d [] f = nil
+start-tied d (t ∷ ts) f = let v = start-one d (t .affected) (t .room) (t .gain) (f .0) in tie (v .0) (v .1) (start-tied d ts (f .1))
+
+lists-fresh : (as′ ls : List Bool) (rs : List ℕ) → Fresh (tracksOf as′ ls rs)
+unfolding tracksOf All
+lists-fresh (a ∷ as′) (l ∷ ls) (r ∷ rs) = (refl, lists-fresh as′ ls rs)
+lists-fresh (a ∷ as′) (l ∷ ls) [] = tt
+lists-fresh (a ∷ as′) [] rs = tt
+lists-fresh [] ls rs = tt
 
 lost-gains : {d : ℕ} {cs xs : List ℕ} {ts : List Track} → Tied d cs xs ts → lost cs xs ≡ gainsOf ts
 unfolding lost gainsOf
@@ -175,11 +185,14 @@ pub record Agree (cs : List ℕ) (s : State) (f : Fill) : Type 0 where
   pub rounds : s .rounds ≡ f .rounds
   pub more : more f ≡ restMore s
 
-pub fill-agrees : (dots : ℕ) (as′ ls : List Bool) (rs : List ℕ) → Agree (caps dots (tracksOf as′ ls rs)) (fillRests dots (caps dots (tracksOf as′ ls rs))) (fillLists dots as′ ls rs)
+pub fresh-agrees : (dots : ℕ) (ts : List Track) → Fresh ts → Agree (caps dots ts) (fillRests dots (caps dots ts)) (fill dots ts)
 unfolding fillRests fill
-fill-agrees dots as′ ls rs =
-    let cs = caps dots (tracksOf as′ ls rs) in
+fresh-agrees dots ts f =
+    let cs = caps dots ts in
     let v =
-    runs-tied restMore restRound more round (Same cs) (more-same cs) (λ s f e. round-same cs s f e) dots (stateOf cs dots 0) (fillOf (tracksOf as′ ls rs) dots 0)
-    (record { left = refl; rounds = refl; tied = start-tied dots as′ ls rs }) in
+    runs-tied restMore restRound more round (Same cs) (more-same cs) (λ s g e. round-same cs s g e) dots (stateOf cs dots 0) (fillOf ts dots 0)
+    (record { left = refl; rounds = refl; tied = start-tied dots ts f }) in
     record { gains = lost-gains (v .tied); left = v .left; rounds = v .rounds; more = more-same cs _ _ v }
+
+pub fill-agrees : (dots : ℕ) (as′ ls : List Bool) (rs : List ℕ) → Agree (caps dots (tracksOf as′ ls rs)) (fillRests dots (caps dots (tracksOf as′ ls rs))) (fillLists dots as′ ls rs)
+fill-agrees dots as′ ls rs = fresh-agrees dots (tracksOf as′ ls rs) (lists-fresh as′ ls rs)

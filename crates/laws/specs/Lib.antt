@@ -6,3 +6,6 @@ pub mod Quotients
 pub mod Runs
 pub mod Put
 pub mod Rows
+pub mod Lists
+pub mod Alls
+pub mod Spans

@@ -1,0 +1,183 @@
+-- Numbers 7 to 11 of the build paper's table, in their order: which record of a board is at fault, and for what. This page goes
+-- by the kinds of a board, and it computes. It assumes nothing of the code.
+use Prim.Native.Nat.{ℕ, _+_}
+use mathlib.Core.Bool.{Bool, true, false, cond, not, _&&_, _||_}
+use mathlib.Core.List.{List, [], _∷_}
+use lib.Dec.{ltb, leb, eqb}
+use lib.ListN.{length, take, drop}
+use Rattle.laws.specs.Lists.{some}
+use Rattle.fill.specs.Rule.{mostDots}
+use Rattle.kinds.specs.Kinds.{amountAt, fallsIn}
+use Rattle.kinds.specs.declared.amount.Amount.{Amount}
+use Rattle.kinds.specs.declared.amount.Amount.the-variants.{Absent, Given}
+use Rattle.kinds.specs.declared.space.Constraint.{Constraint}
+use Rattle.kinds.specs.declared.space.Constraint.the-variants as constraint
+use Rattle.kinds.specs.declared.space.Space.{Space}
+use Rattle.kinds.specs.declared.track.Minimum.{Minimum}
+use Rattle.kinds.specs.declared.track.Minimum.the-variants as minimum
+use Rattle.kinds.specs.declared.track.Maximum.{Maximum}
+use Rattle.kinds.specs.declared.track.Maximum.the-variants as maximum
+use Rattle.kinds.specs.declared.track.Track.{Track}
+use Rattle.kinds.specs.declared.item.ContributionKind.{ContributionKind}
+use Rattle.kinds.specs.declared.item.ContributionKind.the-variants as kind
+use Rattle.kinds.specs.declared.item.Item.{Item}
+use Rattle.sheet.specs.Rule.{Fault, fine, fault, first}
+
+-- ---- Limits
+
+abbrev pub mostSize : ℕ
+mostSize = 65535
+
+abbrev pub mostFactor : ℕ
+mostFactor = 100000
+
+abbrev pub mostContribution : ℕ
+mostContribution = 65535
+
+-- ---- What an item spans
+
+-- the part of a list, one for each track, that an item covers
+abbrev pub spanned : {A : Type 0} → Item → List A → List A
+spanned i xs = take (i .span) (drop (i .start) xs)
+
+abbrev pub isFixedMinimum : Minimum → Bool
+isFixedMinimum (minimum.Fixed n) = true
+isFixedMinimum minimum.Auto = false
+isFixedMinimum minimum.MinContent = false
+isFixedMinimum minimum.MaxContent = false
+
+abbrev pub isFixedMaximum : Maximum → Bool
+isFixedMaximum (maximum.Fixed n) = true
+isFixedMaximum maximum.Auto = false
+isFixedMaximum maximum.MinContent = false
+isFixedMaximum maximum.MaxContent = false
+isFixedMaximum (maximum.FitContent n) = false
+isFixedMaximum (maximum.Fr n) = false
+
+abbrev pub isFrMaximum : Maximum → Bool
+isFrMaximum (maximum.Fixed n) = false
+isFrMaximum maximum.Auto = false
+isFrMaximum maximum.MinContent = false
+isFrMaximum maximum.MaxContent = false
+isFrMaximum (maximum.FitContent n) = false
+isFrMaximum (maximum.Fr n) = true
+
+-- fixed at both ends
+abbrev pub isFixed : Track → Bool
+isFixed t = isFixedMinimum (t .minimum) && isFixedMaximum (t .maximum)
+
+abbrev pub isFr : Track → Bool
+isFr t = isFrMaximum (t .maximum)
+
+abbrev pub isUnfixed : Track → Bool
+isUnfixed t = not (isFixed t)
+
+-- it spans a track that is not fixed at both ends
+abbrev pub isMeasured : List Track → Item → Bool
+isMeasured ts i = some isUnfixed (spanned i ts)
+
+abbrev pub crossesFr : List Track → Item → Bool
+crossesFr ts i = some isFr (spanned i ts)
+
+-- an item's contributions, in the order of its row
+abbrev pub contributionKinds : List ContributionKind
+contributionKinds = kind.Minimum ∷ kind.MinContent ∷ kind.MaxContent ∷ []
+
+-- ---- 7: a number is over its limit. What is absent is no number
+
+abbrev pub amountOver : ℕ → Amount → Bool
+amountOver most Absent = false
+amountOver most (Given n) = ltb most n
+
+abbrev pub constraintOver : Constraint → Bool
+constraintOver (constraint.Definite n) = ltb mostDots n
+constraintOver constraint.MinContent = false
+constraintOver constraint.MaxContent = false
+
+abbrev pub minimumOver : Minimum → Bool
+minimumOver (minimum.Fixed n) = ltb mostSize n
+minimumOver minimum.Auto = false
+minimumOver minimum.MinContent = false
+minimumOver minimum.MaxContent = false
+
+abbrev pub maximumOver : Maximum → Bool
+maximumOver (maximum.Fixed n) = ltb mostSize n
+maximumOver maximum.Auto = false
+maximumOver maximum.MinContent = false
+maximumOver maximum.MaxContent = false
+maximumOver (maximum.FitContent n) = ltb mostSize n
+maximumOver (maximum.Fr n) = ltb mostFactor n
+
+abbrev pub spaceOver : Space → Bool
+spaceOver s = constraintOver (s .constraint) || amountOver mostDots (s .inner)
+
+abbrev pub trackOver : Track → Bool
+trackOver t = minimumOver (t .minimum) || maximumOver (t .maximum)
+
+abbrev pub itemOver : Item → Bool
+itemOver i = some (λ (k : ContributionKind). amountOver mostContribution (amountAt i k)) contributionKinds
+
+-- ---- 8: span 0, or past the last of n tracks
+
+abbrev pub isOutside : ℕ → Item → Bool
+isOutside n i = eqb (i .span) 0 || ltb n (i .start + i .span)
+
+-- ---- 9: a measured item lacks a contribution
+
+abbrev pub isAbsent : Amount → Bool
+isAbsent Absent = true
+isAbsent (Given n) = false
+
+abbrev pub lacksContribution : Item → Bool
+lacksContribution i = some (λ (k : ContributionKind). isAbsent (amountAt i k)) contributionKinds
+
+abbrev pub isLacking : List Track → Item → Bool
+isLacking ts i = isMeasured ts i && lacksContribution i
+
+-- ---- 10: a measured item's row falls
+
+abbrev pub isFalling : List Track → Item → Bool
+isFalling ts i = isMeasured ts i && fallsIn (i .row)
+
+-- ---- 11: span 2 or more crosses an fr track
+
+abbrev pub isCrossing : List Track → Item → Bool
+isCrossing ts i = leb 2 (i .span) && crossesFr ts i
+
+-- ---- The lowest record at fault
+
+-- of these, whose first is the record `place`
+unfoldable pub lowest : {A : Type 0} → (number : ℕ) → (A → Bool) → (place : ℕ) → List A → Fault
+lowest number bad place [] = fine
+lowest number bad place (x ∷ xs) = cond (bad x) (fault number place) (lowest number bad (place + 1) xs)
+
+-- space is record 0, track t is 1 + t, item i is 1 + tracks + i
+abbrev pub lowestSpace : ℕ → (Space → Bool) → Space → Fault
+lowestSpace number bad s = cond (bad s) (fault number 0) fine
+
+abbrev pub lowestTrack : ℕ → (Track → Bool) → List Track → Fault
+lowestTrack number bad ts = lowest number bad 1 ts
+
+abbrev pub lowestItem : ℕ → (Item → Bool) → List Track → List Item → Fault
+lowestItem number bad ts is = lowest number bad (1 + length ts) is
+
+abbrev pub overFault : Space → List Track → List Item → Fault
+overFault s ts is = first (lowestSpace 7 spaceOver s) (first (lowestTrack 7 trackOver ts) (lowestItem 7 itemOver ts is))
+
+-- ---- The checks, by number
+
+abbrev pub recordChecks : Space → List Track → List Item → List Fault
+recordChecks s ts is =
+    overFault s ts is
+    ∷ lowestItem 8 (isOutside (length ts)) ts is
+    ∷ lowestItem 9 (isLacking ts) ts is
+    ∷ lowestItem 10 (isFalling ts) ts is
+    ∷ lowestItem 11 (isCrossing ts) ts is
+    ∷ []
+
+unfoldable pub firstOf : List Fault → Fault
+firstOf [] = fine
+firstOf (f ∷ fs) = first f (firstOf fs)
+
+unfoldable pub recordFault : Space → List Track → List Item → Fault
+recordFault s ts is = firstOf (recordChecks s ts is)

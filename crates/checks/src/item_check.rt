@@ -1,0 +1,84 @@
+// What an item can be refused for, each as a test of it alone among its tracks.
+use crate::over::item_over;
+use crate::refusal::Refusal;
+use crate::spans::crosses_fr;
+use crate::spans::is_measured;
+use crate::spans::is_outside;
+use kinds::Amount;
+use kinds::ContributionKind;
+use kinds::Item;
+ghost use mathlib.Core.Path.{_≡_};
+ghost use mathlib.Core.List.{map};
+ghost use Rattle.sheet.specs.Rule.{fault};
+ghost use Rattle.kinds.specs.Kinds.{trackOf};
+ghost use Rattle.checks.specs.Rule.{lacksContribution};
+ghost use Rattle.checks.specs.Answer.{refusalFault, checkNumber, failsOf};
+
+pub(crate) enum ItemCheck {
+    Over,
+    Outside,
+    Lacking,
+    Falling,
+    Crossing,
+}
+
+impl ItemCheck {
+    // The cheap half of a test comes first.
+    pub(crate) fn fails(self, tracks: &[[u32; 4]], item: Item) -> bool
+        ensures { λ r. ⌜ r ≡ failsOf self (map trackOf (now (tracks .entry))) item ⌝ }
+    {
+        match self {
+            ItemCheck::Over => item_over(item),
+            ItemCheck::Outside => is_outside(item, tracks.len()),
+            ItemCheck::Lacking => {
+                if lacks_contribution(item) {
+                    return is_measured(tracks, item);
+                }
+                false
+            }
+            ItemCheck::Falling => {
+                if item.falls() {
+                    return is_measured(tracks, item);
+                }
+                false
+            }
+            ItemCheck::Crossing => {
+                if item.span >= 2 {
+                    return crosses_fr(tracks, item);
+                }
+                false
+            }
+        }
+    }
+
+    pub(crate) fn refusal(self, place: usize) -> Refusal
+        ensures { λ r. ⌜ refusalFault r ≡ fault (checkNumber self) place ⌝ }
+    {
+        match self {
+            ItemCheck::Over => Refusal::NumberOver { record: place },
+            ItemCheck::Outside => Refusal::OutsideTracks { record: place },
+            ItemCheck::Lacking => Refusal::ContributionMissing { record: place },
+            ItemCheck::Falling => Refusal::RowFalls { record: place },
+            ItemCheck::Crossing => Refusal::CrossesFr { record: place },
+        }
+    }
+}
+
+fn lacks_contribution(item: Item) -> bool
+    ensures { λ r. ⌜ r ≡ lacksContribution item ⌝ }
+{
+    let minimum = item.amount(ContributionKind::Minimum);
+    let min_content = item.amount(ContributionKind::MinContent);
+    let max_content = item.amount(ContributionKind::MaxContent);
+    if let Amount::Absent = minimum {
+        return true;
+    }
+    if let Amount::Absent = min_content {
+        return true;
+    }
+    if let Amount::Absent = max_content {
+        true
+    } else {
+        false
+    }
+}

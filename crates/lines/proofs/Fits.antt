@@ -1,0 +1,150 @@
+-- Lines that fit still fit after steps 1, 2 and 4, and there are as many of them. Assumes nothing.
+use mathlib.Core.Path.{_≡_, refl, ap, _∙_, sym, subst}
+use mathlib.Core.Bool.{Bool, true, false, cond}
+use mathlib.Core.List.{List, [], _∷_, map}
+use Prim.Native.Nat.{ℕ, zero, suc, _+_, _≤_, _<_, min, max, zero-le}
+use native.Mathlib.Nat.{le-trans, le-refl}
+use native.Mathlib.Omega.{arith}
+use lib.ListN.{length, take, drop}
+use Rattle.laws.specs.Lists.{All, inTurn, changeAt}
+use Rattle.kinds.specs.Kinds.{minimumNumber, maximumNumber}
+use Rattle.kinds.specs.declared.space.Constraint.{Constraint}
+use Rattle.kinds.specs.declared.space.Constraint.the-variants.{Definite, MinContent, MaxContent}
+use Rattle.kinds.specs.declared.track.Minimum.{Minimum}
+use Rattle.kinds.specs.declared.track.Minimum.the-variants as minimum
+use Rattle.kinds.specs.declared.track.Maximum.{Maximum}
+use Rattle.kinds.specs.declared.track.Maximum.the-variants as maximum
+use Rattle.kinds.specs.declared.track.Track.{Track}
+use Rattle.checks.specs.Rule.{mostSize}
+use Rattle.checks.specs.Sound.{TrackFits, mostOf}
+use Rattle.lines.specs.declared.limit.Limit.{Limit}
+use Rattle.lines.specs.declared.limit.Limit.the-variants.{None, UpTo}
+use Rattle.lines.specs.declared.line.Line.{Line}
+use Rattle.lines.specs.declared.measured.Measured.{Measured}
+use Rattle.lines.specs.Rule.{line, withLimit, cut, orBase, limitSize, startBase, startLimit, atLeast, settled, startLine, start, maxima, limited, forAuto, baseAsked, limitWith, limitAsked, withItem, withItemAt, singles, missing}
+use Rattle.lines.specs.Rows.{limitNumber}
+use Rattle.lines.specs.Fits.{LineFits, LinesFit, MeasuredFits, MeasuredFit}
+
+line-fits : (t : Track) (base : ℕ) (limit : Limit) (grows : Bool) → TrackFits t → base ≤ mostSize → limitNumber limit ≤ mostSize → LineFits (line t base limit grows)
+line-fits t base limit grows f b m = record { track = f; base = b; limit = m }
+
+-- ---- one line
+
+at-least-le : (base : ℕ) (limit : Limit) → base ≤ mostSize → limitNumber limit ≤ mostSize → limitNumber (atLeast base limit) ≤ mostSize
+at-least-le base None b m = m
+at-least-le base (UpTo n) b m = omega arith
+
+pub settled-fits : (l : Line) → LineFits l → LineFits (settled l)
+settled-fits l f = record { track = f .track; base = f .base; limit = at-least-le (l .base) (l .limit) (f .base) (f .limit) }
+
+start-base-le : (m : Minimum) → minimumNumber m ≤ mostSize → startBase m ≤ mostSize
+start-base-le (minimum.Fixed n) h = h
+start-base-le minimum.Auto h = h
+start-base-le minimum.MinContent h = h
+start-base-le minimum.MaxContent h = h
+
+start-limit-le : (m : Maximum) → maximumNumber m ≤ mostOf m → limitNumber (startLimit m) ≤ mostSize
+start-limit-le (maximum.Fixed n) h = h
+start-limit-le maximum.Auto h = h
+start-limit-le maximum.MinContent h = h
+start-limit-le maximum.MaxContent h = h
+start-limit-le (maximum.FitContent n) h = zero-le
+start-limit-le (maximum.Fr n) h = zero-le
+
+pub limit-size-le : (l : Line) → LineFits l → limitSize l ≤ mostSize
+limit-size-le l f = go (l .limit) (f .limit)
+  where
+    go : (m : Limit) → limitNumber m ≤ mostSize → orBase m (l .base) ≤ mostSize
+    go None h = f .base
+    go (UpTo n) h = h
+
+-- ---- what an item asks
+
+cut-le : (limit : Limit) (n : ℕ) → cut limit n ≤ n
+cut-le None n = le-refl n
+cut-le (UpTo m) n = omega arith
+
+pub limited-le : (n : ℕ) (i : Measured) (ls : List Line) → i .minimum ≤ mostSize → n ≤ mostSize → limited n i ls ≤ mostSize
+limited-le n i ls h k = let c = cut-le (maxima ls) n in omega arith
+
+pub for-auto-le : (c : Constraint) (n : ℕ) (i : Measured) (ls : List Line) → MeasuredFits n i → forAuto c i ls ≤ mostSize
+for-auto-le (Definite d) n i ls f = f .minimum
+for-auto-le MinContent n i ls f = limited-le (i .«min_content») i ls (f .minimum) (f .min-content)
+for-auto-le MaxContent n i ls f = limited-le (i .«min_content») i ls (f .minimum) (f .min-content)
+
+base-asked-le : (c : Constraint) (n : ℕ) (i : Measured) (l : Line) (m : Minimum) → MeasuredFits n i → baseAsked c i l m ≤ mostSize
+base-asked-le c n i l (minimum.Fixed k) f = zero-le
+base-asked-le c n i l minimum.Auto f = for-auto-le c n i (l ∷ []) f
+base-asked-le c n i l minimum.MinContent f = f .min-content
+base-asked-le c n i l minimum.MaxContent f = f .max-content
+
+limit-with-le : (n : ℕ) (limit : Limit) → n ≤ mostSize → limitNumber limit ≤ mostSize → limitNumber (limitWith n limit) ≤ mostSize
+limit-with-le n None h k = h
+limit-with-le n (UpTo m) h k = omega arith
+
+limit-asked-le : (n : ℕ) (i : Measured) (limit : Limit) (m : Maximum) → MeasuredFits n i → limitNumber limit ≤ mostSize → limitNumber (limitAsked i limit m) ≤ mostSize
+limit-asked-le n i limit (maximum.Fixed k) f h = h
+limit-asked-le n i limit maximum.Auto f h = limit-with-le (i .«max_content») limit (f .max-content) h
+limit-asked-le n i limit maximum.MinContent f h = limit-with-le (i .«min_content») limit (f .min-content) h
+limit-asked-le n i limit maximum.MaxContent f h = limit-with-le (i .«max_content») limit (f .max-content) h
+limit-asked-le n i limit (maximum.FitContent k) f h = let m = f .max-content in limit-with-le (min k (i .«max_content»)) limit (omega arith) h
+limit-asked-le n i limit (maximum.Fr k) f h = h
+
+with-item-line-fits : (c : Constraint) (n : ℕ) (i : Measured) (l : Line) → MeasuredFits n i → LineFits l → LineFits (withItem c i l)
+with-item-line-fits c n i l f g =
+    let b = g .base in
+    let a = base-asked-le c n i l (l .track .minimum) f in
+    record { track = g .track; base = omega arith; limit = limit-asked-le n i (l .limit) (l .track .maximum) f (g .limit) }
+
+-- ---- all lines
+
+map-fits : (h : Line → Line) → ((l : Line) → LineFits l → LineFits (h l)) → (ls : List Line) → LinesFit ls → LinesFit (map h ls)
+unfolding All
+map-fits h k [] f = f
+map-fits h k (l ∷ ls) f = (k l (f .0), map-fits h k ls (f .1))
+
+change-fits : (t : ℕ) (h : Line → Line) → ((l : Line) → LineFits l → LineFits (h l)) → (ls : List Line) → LinesFit ls → LinesFit (changeAt t h ls)
+unfolding All changeAt
+change-fits t h k [] f = f
+change-fits zero h k (l ∷ ls) f = (k l (f .0), f .1)
+change-fits (suc t) h k (l ∷ ls) f = (f .0, change-fits t h k ls (f .1))
+
+pub length-change : {A : Type 0} (t : ℕ) (h : A → A) (xs : List A) → length (changeAt t h xs) ≡ length xs
+unfolding changeAt
+length-change t h [] = refl
+length-change zero h (x ∷ xs) = refl
+length-change (suc t) h (x ∷ xs) = ap suc (length-change t h xs)
+
+-- 1. Start
+pub start-fits : (ts : List Track) → All TrackFits ts → LinesFit (start ts)
+unfolding All start
+start-fits [] f = f
+start-fits (t ∷ ts) f = (
+  settled-fits (line t (startBase (t .minimum)) (startLimit (t .maximum)) false)
+      (line-fits t (startBase (t .minimum)) (startLimit (t .maximum)) false (f .0) (start-base-le (t .minimum) (f .0 .0)) (start-limit-le (t .maximum) (f .0 .1))),
+  start-fits ts (f .1),
+)
+
+-- 2. Items in one track
+module _ (c : Constraint) (n : ℕ) where
+  pub with-item-fits : (i : Measured) (ls : List Line) → MeasuredFits n i → LinesFit ls → LinesFit (withItemAt c i ls)
+  with-item-fits i ls f g = change-fits (i .start) (withItem c i) (λ l k. with-item-line-fits c n i l f k) ls g
+
+  pub take-singles-fit : (is : List Measured) (ls : List Line) → MeasuredFit n is → LinesFit ls → LinesFit (inTurn (withItemAt c) is ls)
+  unfolding inTurn All
+  take-singles-fit [] ls f g = g
+  take-singles-fit (i ∷ is) ls f g = take-singles-fit is (withItemAt c i ls) (f .1) (with-item-fits i ls (f .0) g)
+
+  pub length-take-singles : (is : List Measured) (ls : List Line) → length (inTurn (withItemAt c) is ls) ≡ length ls
+  unfolding inTurn
+  length-take-singles [] ls = refl
+  length-take-singles (i ∷ is) ls = length-take-singles is (withItemAt c i ls) ∙ length-change (i .start) (withItem c i) ls
+
+  pub singles-fit : (is : List Measured) (ls : List Line) → MeasuredFit n is → LinesFit ls → LinesFit (singles c is ls)
+  unfolding singles
+  singles-fit is ls f g = map-fits settled settled-fits _ (take-singles-fit is ls f g)
+
+-- 4. Missing limits
+pub missing-fit : (ls : List Line) → LinesFit ls → LinesFit (missing ls)
+unfolding missing
+missing-fit ls f = map-fits (λ (l : Line). withLimit l (UpTo (limitSize l))) (λ l g. record { track = g .track; base = g .base; limit = limit-size-le l g }) ls f

@@ -1,0 +1,11 @@
+-- The laws of the lines. A function's own proof stands in the folder of its name.
+
+-- rows, and what they say
+pub mod Lines
+pub mod Starts
+pub mod Walks
+-- the chains of the batches
+pub mod Chains
+-- what every step keeps
+pub mod Fits
+pub mod Maximise

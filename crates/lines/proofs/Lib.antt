@@ -8,4 +8,5 @@ pub mod Walks
 pub mod Chains
 -- what every step keeps
 pub mod Fits
+pub mod Raise
 pub mod Maximise

@@ -8,5 +8,4 @@ pub mod Walks
 pub mod Chains
 -- what every step keeps
 pub mod Fits
-pub mod Raise
 pub mod Maximise

@@ -1,0 +1,8 @@
+-- a sheet that could be read, case by case as the code goes
+pub mod SizeSheet
+-- a sheet is never refused with 6
+pub mod SheetNumbers
+-- what reading with room for any sheet leaves, and so the board
+pub mod ReadBoard
+-- answers that tell the same are the same
+pub mod Unique

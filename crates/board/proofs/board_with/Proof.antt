@@ -1,0 +1,94 @@
+-- `board_with` meets its contract: the rows read are the sheet's (`ReadBoard`). Assumes nothing.
+use borrow.Author.Needs.{needs}
+use mathlib.Core.Path.{sym}
+use lib.Seq.{length-take-le}
+use Rattle.sheet.proofs.read.Reads as read-reads
+use Rattle.board.proofs.ReadBoard.{SheetRead, sheet-refused, sheet-refused-own, sheet-read, board-of-sheet}
+use Rattle.board.proofs.size_sheet.Reads as size-sheet-reads
+use Rattle.board.proofs.board_with.Statement.{statement}
+use Rattle.board.proofs.board_with.Tie as tie
+use Rattle.board.proofs.board_with.Reads as reads
+use Rattle.board.proofs.board_with.Lts as lts
+
+read-requires : tie.Need-read-requires
+read-requires c κs = search needs
+
+enum-known-read : tie.Need-enum-known-read
+enum-known-read c = search needs
+
+enum-known-read-2 : tie.Need-enum-known-read-2
+enum-known-read-2 c = search needs
+
+-- what holds in the arm of a sheet that was read
+read-at : (c : lts.After-known-told2 (read-reads.Asked, read-reads.Learnt, size-sheet-reads.Asked, size-sheet-reads.Learnt) reads.Pre reads.Post)
+    → SheetRead (c .before .before .before .before .before .before .before .before .before .args .bytes .now) (c .before .before .before .before .before .before .before .before .before .args .tracks .now) (c .before .before .before .before .before .before .before .before .before .args .items .now) (c .before .before .before .before .before .before .before .before .before .pre .0) (c .before .before .before .before .before .before .before .before .before .pre .1) (c .before .before .before .before .before .read .last .1 .0) (c .before .before .before .before .before .read .last .1 .1 .0) (c .before .read3 .given .0 .0) (c .before .read3 .given .0 .1 .0) (c .before .read3 .given .0 .1 .1 .0)
+read-at c =
+    let a = c .before .before .before .before .before .before .before .before .before .args in
+    let pre = c .before .before .before .before .before .before .before .before .before .pre in
+    let read = c .before .before .before .before .before .read in
+    let told = c .before .read3 .given in
+    sheet-read (a .bytes .now) (a .tracks .now) (a .items .now) (pre .0) (pre .1) (read .last .1 .0) (read .last .1 .1 .0) (read .result) (told .0 .0) (told .0 .1 .0) (told .0 .1 .1 .0) (told .1) (read .ensures)
+
+slice-reshare-prefix-size-sheet : tie.Need-slice-reshare-prefix-size-sheet
+slice-reshare-prefix-size-sheet c = read-at c .trackRows
+
+slice-aggregate-size-sheet : tie.Need-slice-aggregate-size-sheet
+slice-aggregate-size-sheet c = sym (length-take-le _ _ (read-at (c .before) .trackRows))
+
+slice-reshare-prefix-size-sheet-2 : tie.Need-slice-reshare-prefix-size-sheet-2
+slice-reshare-prefix-size-sheet-2 c = read-at (c .before) .itemRows
+
+slice-aggregate-size-sheet-2 : tie.Need-slice-aggregate-size-sheet-2
+slice-aggregate-size-sheet-2 c = sym (length-take-le _ _ (read-at (c .before .before) .itemRows))
+
+size-sheet-requires : tie.Need-size-sheet-requires
+size-sheet-requires c κs = let ok = read-at (c .before .before .before) in (ok .fewTracks, ok .fewItems)
+
+same-length : tie.Need-same-length
+same-length c = search needs
+
+same-length-2 : tie.Need-same-length-2
+same-length-2 c = search needs
+
+returns : tie.Need-returns
+returns c =
+    let a = c .before .before .before .before .before .before .before .before .before .args in
+    let pre = c .before .before .before .before .before .before .before .before .before .pre in
+    let read = c .before .before .before .before .before .read in
+    let told = c .before .read2 .given in
+    (sheet-refused (a .bytes .now) (a .tracks .now) (a .items .now) (pre .0) (pre .1) (read .last .1 .0) (read .last .1 .1 .0) (read .result) (told .0 .0) (a .places .now) (told .1) (read .ensures), sheet-refused-own (a .bytes .now) (a .tracks .now) (a .items .now) (pre .0) (pre .1) (read .last .1 .0) (read .last .1 .1 .0) (read .result) (told .0 .0) (told .1) (read .ensures))
+
+same-length-3 : tie.Need-same-length-3
+same-length-3 c = search needs
+
+same-length-4 : tie.Need-same-length-4
+same-length-4 c = search needs
+
+same-length-5 : tie.Need-same-length-5
+same-length-5 c = search needs
+
+returns-2 : tie.Need-returns-2
+returns-2 c =
+    let at = c .before .before .before .before .before in
+    let a = at .before .before .before .before .before .before .before .before .before .args in
+    (board-of-sheet _ _ _ _ _ _ _ _ _ _ (read-at at) (a .places .now) _ (c .before .size-sheet .ensures .0), c .before .size-sheet .ensures .1)
+
+pub board-with-spec : {M : Type 1} → statement M
+board-with-spec =
+    tie.close
+    (tie.spec
+    read-requires
+    enum-known-read
+    enum-known-read-2
+    slice-reshare-prefix-size-sheet
+    slice-aggregate-size-sheet
+    slice-reshare-prefix-size-sheet-2
+    slice-aggregate-size-sheet-2
+    size-sheet-requires
+    same-length
+    same-length-2
+    returns
+    same-length-3
+    same-length-4
+    same-length-5
+    returns-2)

@@ -1,0 +1,34 @@
+-- The batches of the items, by number: 0 for an item that takes no part, its span, and a last one for items on an fr track; and
+-- what the chains say when all items are gathered. Assumes nothing.
+use mathlib.Core.Path.{_≡_}
+use Prim.Native.Nat.{ℕ, _<_}
+use mathlib.Core.Bool.{Bool, cond, not, _&&_}
+use mathlib.Core.List.{List, [], map}
+use lib.Dec.{eqb}
+use lib.ListN.{length, getD}
+use Rattle.laws.specs.Lists.{keep}
+use Rattle.kinds.specs.Kinds.{Row, itemOf}
+use Rattle.kinds.specs.declared.track.Track.{Track}
+use Rattle.kinds.specs.declared.item.Item.{Item}
+use Rattle.checks.specs.Rule.{isMeasured, crossesFr, lacksContribution}
+use Rattle.lines.specs.Chains.{Rising, chain}
+
+-- past every span of a board
+abbrev pub lastBatch : ℕ
+lastBatch = 257
+
+unfoldable pub batchOf : List Track → Item → ℕ
+batchOf ts i = cond (isMeasured ts i && not (lacksContribution i)) (cond (crossesFr ts i) lastBatch (i .span)) 0
+
+abbrev pub inBatch : List Track → ℕ → Item → Bool
+inBatch ts k i = eqb (batchOf ts i) k
+
+-- the items that a chain names
+unfoldable pub chainItems : List Row → List ℕ → ℕ → List Item
+chainItems rows nexts i = map (λ (j : ℕ). itemOf (getD rows j [])) (chain nexts i)
+
+-- each batch is chained from its head on, in the items' order
+pub record Gathered (ts : List Track) (rows : List Row) (heads nexts : List ℕ) : Type 0 where
+  pub rising : Rising nexts
+  pub long : length nexts ≡ length rows
+  pub batch : (k : ℕ) → k < length heads → chainItems rows nexts (getD heads k 0) ≡ keep (inBatch ts k) (map itemOf rows)

@@ -1,0 +1,91 @@
+-- `content_fr` meets its contract. The loop's invariant: the rest of the chain leads from the fr so far to that of all. Assumes nothing.
+use borrow.Author.Needs.{needs}
+use Rattle.flexible.proofs.content.content_fr.Statement.{statement}
+use mathlib.Core.Path.{_≡_, ap}
+use native.Mathlib.Omega.{arith}
+use Prim.Native.Nat.{_-_}
+use lib.ListN.{length}
+use Rattle.laws.specs.Lists.{inTurn}
+use Rattle.lines.specs.Rule.{itemFr}
+use Rattle.lines.specs.Rows.{linesOf}
+use Rattle.lines.specs.Fits.{MeasuredFit}
+use Rattle.lines.specs.Chains.{chained}
+use Rattle.flexible.specs.Flexes.{batchFr}
+use Rattle.flexible.proofs.Spans.{chain-fits-here, chain-fits-next, chain-step, chain-rises, chain-done}
+use Rattle.flexible.proofs.content.content_fr.Tie as tie
+
+abbrev Inv-loop : tie.InvT-loop
+Inv-loop first nexts items lines held₀ fr₀ i₀ held fr i = (length held ≡ length held₀) × MeasuredFit (length lines) (chained items nexts i) × (inTurn (itemFr (linesOf lines)) (chained items nexts i) fr ≡ batchFr (chained items nexts first) (linesOf lines))
+
+abbrev μ-loop : tie.MeasureT-loop
+μ-loop first nexts items lines held₀ fr₀ i₀ held fr i = length items - i
+
+bases-fr-requires : tie.Need-bases-fr-requires Inv-loop μ-loop
+bases-fr-requires c κs = search needs
+
+loop-holds : tie.Need-loop-holds Inv-loop μ-loop
+unfolding batchFr
+loop-holds c =
+    let a = c .before .before .before .args in
+    (search needs, c .before .before .before .pre .1 .fits, ap (inTurn (itemFr (linesOf (a .lines .now))) (chained (a .items .now) (a .nexts .now) (a .first))) (c .bases-fr .ensures))
+
+mul-row : tie.Need-mul-row Inv-loop μ-loop
+mul-row c = search needs
+
+shared-slice-copy-out-row : tie.Need-shared-slice-copy-out-row Inv-loop μ-loop
+shared-slice-copy-out-row c = search needs
+
+item-fr-requires : tie.Need-item-fr-requires Inv-loop μ-loop
+item-fr-requires c κs =
+    let a = c .before .before .before .before .before .before .before in
+    let l = c .before .before .before in
+    (record { one-length = search needs; few = a .pre .0 .few; fits = a .pre .0 .fits }, chain-fits-here (a .args .items .now) (a .args .nexts .now) (l .loop .i) (a .pre .1 .one-length) (a .pre .1 .rising) (c .before .before .loop-test .taken) _ (l .loop .inv .1))
+
+mul-i : tie.Need-mul-i Inv-loop μ-loop
+mul-i c = search needs
+
+shared-slice-read-i : tie.Need-shared-slice-read-i Inv-loop μ-loop
+shared-slice-read-i c = omega (arith, c .before .before .before .before .before .before .before .before .before .before .before .pre .1 .one-length)
+
+loop-less : tie.Need-loop-less Inv-loop μ-loop
+loop-less c =
+    let a = c .before .before .before .before .before .before .before .before .before .before .before in
+    let l = c .before .before .before .before .before .before .before in
+    let r = chain-rises (a .args .items .now) (a .args .nexts .now) (l .loop .i) (a .pre .1 .one-length) (a .pre .1 .rising) (c .before .before .before .before .before .before .loop-test .taken) in
+    omega arith
+
+loop-again : tie.Need-loop-again Inv-loop μ-loop
+loop-again c =
+    let a = c .before .before .before .before .before .before .before .before .before .before .before in
+    let l = c .before .before .before .before .before .before .before in (
+      search needs,
+      chain-fits-next (a .args .items .now) (a .args .nexts .now) (l .loop .i) (a .pre .1 .one-length) (a .pre .1 .rising) (c .before .before .before .before .before .before .loop-test .taken) _ (l .loop .inv .1),
+      chain-step (a .args .items .now) (a .args .nexts .now) (l .loop .i) (a .pre .1 .one-length) (a .pre .1 .rising) (c .before .before .before .before .before .before .loop-test .taken) (itemFr (linesOf (a .args .lines .now))) (l .loop .fr) (c .before .before .before .item-fr .result) _ (c .before .before .before .item-fr .ensures) (l .loop .inv .2),
+    )
+
+same-length : tie.Need-same-length Inv-loop μ-loop
+same-length c = search needs
+
+returns : tie.Need-returns Inv-loop μ-loop
+returns c =
+    let a = c .before .before .before .before .before in
+    let l = c .before in
+    chain-done (a .args .items .now) (a .args .nexts .now) (l .loop .i) (a .pre .1 .one-length) (itemFr (linesOf (a .args .lines .now))) (l .loop .fr) _ (c .loop-test .left) (l .loop .inv .2)
+
+pub content-fr-spec : {M : Type 1} → statement M
+content-fr-spec =
+    tie.close
+    (tie.spec
+    Inv-loop
+    μ-loop
+    bases-fr-requires
+    loop-holds
+    mul-row
+    shared-slice-copy-out-row
+    item-fr-requires
+    mul-i
+    shared-slice-read-i
+    loop-less
+    loop-again
+    same-length
+    returns)

@@ -1,0 +1,105 @@
+-- `item_fr` goes by the item's part, and searches the part of the store that the item spans. Assumes nothing.
+use borrow.Author.Needs.{needs}
+use Rattle.flexible.proofs.content.item_fr.Statement.{statement}
+use native.Mathlib.Omega.{arith}
+use Rattle.lines.specs.Rule.{itemFr}
+use Rattle.lines.specs.Rows.{linesOf}
+use Rattle.flexible.proofs.Spans.{part-fits, span-fr-is, left-out, takes-part, takes-fits}
+use Rattle.flexible.proofs.content.item_fr.Tie as tie
+
+of-row-requires : tie.Need-of-row-requires
+of-row-requires c κs = search needs
+
+part-of-requires : tie.Need-part-of-requires
+part-of-requires c κs = search needs
+
+enum-told : tie.Need-enum-told
+enum-told c = search needs
+
+enum-known-part : tie.Need-enum-known-part
+enum-known-part c = search needs
+
+cast-a : tie.Need-cast-a
+cast-a c = search needs
+
+cast-e : tie.Need-cast-e
+cast-e c = search needs
+
+add-e : tie.Need-add-e
+add-e c = search needs
+
+mul-search-over : tie.Need-mul-search-over
+mul-search-over c = search needs
+
+sub-search-over : tie.Need-sub-search-over
+sub-search-over c = search needs
+
+part-search-over-start : tie.Need-part-search-over-start
+part-search-over-start c = search needs
+
+part-search-over-end : tie.Need-part-search-over-end
+part-search-over-end c =
+    let a = c .before .before .before .before .before .before .before .before in
+    let f = takes-fits (a .args .row) (c .before .before .before .before .before .before .of-row .result) (c .before .before .before .before .before .part-of .result) (c .before .before .before .before .before .before .of-row .ensures) (c .before .before .before .before .before .part-of .ensures) _ (c .before .before .before .part .given .1) _ (a .pre .1) in
+    omega (arith, f .within)
+
+sub-search-over-2 : tie.Need-sub-search-over-2
+sub-search-over-2 c = search needs
+
+part-search-over-start-2 : tie.Need-part-search-over-start-2
+part-search-over-start-2 c = search needs
+
+part-search-over-end-2 : tie.Need-part-search-over-end-2
+part-search-over-end-2 c =
+    let a = c .before .before .before .before .before .before .before .before .before in
+    let f = takes-fits (a .args .row) (c .before .before .before .before .before .before .before .of-row .result) (c .before .before .before .before .before .before .part-of .result) (c .before .before .before .before .before .before .before .of-row .ensures) (c .before .before .before .before .before .before .part-of .ensures) _ (c .before .before .before .before .part .given .1) _ (a .pre .1) in
+    omega (arith, f .within, a .pre .0 .one-length)
+
+search-over-requires : tie.Need-search-over-requires
+search-over-requires c κs =
+    let a = c .before .before .before .before .before .before .before .before .before .before in
+    let m = c .before .before .before .before .before .part .given .0 .0 in
+    let f = takes-fits (a .args .row) (c .before .before .before .before .before .before .before .before .of-row .result) (c .before .before .before .before .before .before .before .part-of .result) (c .before .before .before .before .before .before .before .before .of-row .ensures) (c .before .before .before .before .before .before .before .part-of .ensures) _ (c .before .before .before .before .before .part .given .1) _ (a .pre .1) in
+    part-fits (a .args .lines .now) (a .args .held .now) (m .start) (m .span) (f .within) (a .pre .0)
+
+larger-fr-requires : tie.Need-larger-fr-requires
+larger-fr-requires c κs = search needs
+
+returns : tie.Need-returns
+returns c =
+    let a = c .before .before .before .before .before in
+    left-out (a .args .row) (c .before .before .before .of-row .result) (c .before .before .part-of .result) (c .before .before .before .of-row .ensures) (c .before .before .part-of .ensures) (itemFr (linesOf (a .args .lines .now))) (a .args .fr) (c .enum-told .given .1)
+
+same-length : tie.Need-same-length
+same-length c = search needs
+
+returns-2 : tie.Need-returns-2
+returns-2 c =
+    let a = c .before .before .before .before .before .before .before .before .before .before .before .before .before .before in
+    let m = c .before .before .before .before .before .before .before .before .before .part .given .0 .0 in
+    takes-part (a .args .row) (c .before .before .before .before .before .before .before .before .before .before .before .before .of-row .result) (c .before .before .before .before .before .before .before .before .before .before .before .part-of .result) (c .before .before .before .before .before .before .before .before .before .before .before .before .of-row .ensures) (c .before .before .before .before .before .before .before .before .before .before .before .part-of .ensures) m (c .before .before .before .before .before .before .before .before .before .part .given .1) (itemFr (linesOf (a .args .lines .now))) (a .args .fr) (c .larger-fr .result)
+    (span-fr-is (a .args .lines .now) m (a .args .fr) (c .before .before .before .search-over .result) (c .larger-fr .result) (c .before .before .before .search-over .ensures) (c .larger-fr .ensures))
+
+pub item-fr-spec : {M : Type 1} → statement M
+item-fr-spec =
+    tie.close
+    (tie.spec
+    of-row-requires
+    part-of-requires
+    enum-told
+    enum-known-part
+    cast-a
+    cast-e
+    add-e
+    mul-search-over
+    sub-search-over
+    part-search-over-start
+    part-search-over-end
+    sub-search-over-2
+    part-search-over-start-2
+    part-search-over-end-2
+    search-over-requires
+    larger-fr-requires
+    returns
+    same-length
+    returns-2)

@@ -1,0 +1,69 @@
+-- `flexed` rounds once, after the product, and keeps all of a line but its base. Assumes nothing.
+use borrow.Author.Needs.{needs}
+use Rattle.flexible.proofs.grow.flexed.Statement.{statement}
+use native.Mathlib.Omega.{arith}
+use Rattle.flexible.proofs.Products.{product-fits, share-le}
+use Rattle.flexible.proofs.Lines.{flexed-row}
+use Rattle.flexible.proofs.grow.flexed.Tie as tie
+
+of-row-requires : tie.Need-of-row-requires
+of-row-requires c κs = search needs
+
+is-fr-requires : tie.Need-is-fr-requires
+is-fr-requires c κs = search needs
+
+factor-requires : tie.Need-factor-requires
+factor-requires c κs = search needs
+
+cast-dots : tie.Need-cast-dots
+cast-dots c = search needs
+
+cast-per : tie.Need-cast-per
+cast-per c = search needs
+
+cast-share : tie.Need-cast-share
+cast-share c = search needs
+
+mul-share : tie.Need-mul-share
+mul-share c = product-fits (c .before .before .factor .result) (c .before .before .before .before .before .args .fr .dots) (search needs) (search needs)
+
+div-share : tie.Need-div-share
+div-share c = search needs
+
+cast-larger : tie.Need-cast-larger
+cast-larger c =
+    let a = c .before .before .before .before .before in
+    record { fits = omega (arith, share-le (c .before .before .factor .result) (a .args .fr .dots) (a .args .fr .per) (omega (arith, c .before .before .factor .ensures, a .pre .1)) (a .pre .0 .dots) (a .pre .0 .per)) }
+
+larger-requires : tie.Need-larger-requires
+larger-requires c κs = search needs
+
+choose-requires : tie.Need-choose-requires
+choose-requires c κs = search needs
+
+with-sizes-requires : tie.Need-with-sizes-requires
+with-sizes-requires c κs = search needs
+
+returns : tie.Need-returns
+returns c =
+    let a = c .before .before .before .before .before .before .before .before .args in
+    flexed-row (a .fr) (a .row) (c .before .before .before .before .before .before .before .of-row .result) (c .before .before .before .before .before .before .before .of-row .ensures) (c .with-sizes .result) (c .before .before .before .before .before .before .is-fr .result) (c .before .before .before .before .before .factor .result) (c .before .before .larger .result) (c .before .choose .result)
+    (c .before .before .before .before .before .before .is-fr .ensures) (c .before .before .before .before .before .factor .ensures) (c .before .before .larger .ensures) (c .before .choose .ensures) (c .with-sizes .ensures)
+
+pub flexed-spec : {M : Type 1} → statement M
+flexed-spec =
+    tie.close
+    (tie.spec
+    of-row-requires
+    is-fr-requires
+    factor-requires
+    cast-dots
+    cast-per
+    cast-share
+    mul-share
+    div-share
+    cast-larger
+    larger-requires
+    choose-requires
+    with-sizes-requires
+    returns)

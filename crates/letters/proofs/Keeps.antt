@@ -1,0 +1,267 @@
+-- What a letter keeps: its gains and increases are as many as the lines, no gain is more than the extra dots, and sizes stay
+-- within the limit of a contribution. Assumes nothing.
+use mathlib.Core.Path.{_≡_, refl, sym, ap, _∙_}
+use mathlib.Core.Logic.{⊎-elim}
+use mathlib.Core.Bool.{Bool, true, false, cond}
+use mathlib.Core.List.{List, [], _∷_, map, zipWith}
+use Prim.Native.Nat.{ℕ, zero, suc, _+_, _-_, _≤_, _<_, max, zero-le}
+use native.Mathlib.Nat.{le-trans, le-of-suc-le-suc}
+use native.Mathlib.Omega.{arith}
+use lib.Dec.{ltb}
+use lib.ListN.{length, getD, drop, replicate, length-take, length-replicate, length-map, List·getD-map, List·getD-eq-default}
+use lib.Seq.{getD-take, getD-drop}
+use Rattle.laws.specs.Tests.{lt-or-ge}
+use Rattle.laws.specs.Lists.{larger, largerFrom, inTurn, All, all-at}
+use Rattle.laws.specs.Sums.{sum, getD-le-sum}
+use Rattle.fill.specs.Rule.{gainsOf, fill}
+use Rattle.fill.proofs.Tied.{Fresh}
+use Rattle.fill.proofs.Fresh.{gain-add-left-le, length-gains}
+use Rattle.kinds.specs.Kinds.{Row}
+use Rattle.kinds.specs.declared.space.Constraint.{Constraint}
+use Rattle.kinds.specs.declared.space.Constraint.the-variants.{Definite, MinContent, MaxContent}
+use Rattle.checks.specs.Rule.{mostSize, mostContribution}
+use Rattle.lines.specs.declared.limit.Limit.{Limit}
+use Rattle.lines.specs.declared.limit.Limit.the-variants.{None, UpTo}
+use Rattle.lines.specs.declared.line.Line.{Line}
+use Rattle.lines.specs.declared.measured.Measured.{Measured}
+use Rattle.lines.specs.Rule.{cut, orBase, atLeast, limited, maxima, forAuto, limitPlus, firstTrack, restTrack, shares, extraOf, gainsBy, increasedBy, increases, raise, spanned}
+use Rattle.lines.specs.Rule as rule
+use Rattle.lines.specs.Rows.{limitNumber, lineOf, linesOf}
+use Rattle.lines.specs.Fits.{LineFits, LinesFit, MeasuredFits, MeasuredFit}
+use Rattle.letters.specs.declared.letter.Letter.{Letter}
+use Rattle.letters.specs.declared.letter.Letter.the-variants.{A, B, C, D, E, F}
+use Rattle.letters.specs.Letters.{letterOf, most}
+use Rattle.letters.proofs.Shared.{firstFill, first-fresh, zip-fresh}
+
+-- ---- the gains of an item
+
+length-zip : {X Y Z : Type 0} (f : X → Y → Z) (xs : List X) (ys : List Y) → length xs ≡ length ys → length (zipWith f xs ys) ≡ length xs
+unfolding zipWith
+length-zip f [] ys e = refl
+length-zip f (x ∷ xs) [] e = absurd (omega arith)
+length-zip f (x ∷ xs) (y ∷ ys) e = ap suc (length-zip f xs ys (omega arith))
+
+getD-zip-add-le : (xs ys : List ℕ) (i : ℕ) → getD (zipWith _+_ xs ys) i 0 ≤ getD xs i 0 + getD ys i 0
+unfolding zipWith
+getD-zip-add-le [] ys i = zero-le
+getD-zip-add-le (x ∷ xs) [] i = zero-le
+getD-zip-add-le (x ∷ xs) (y ∷ ys) zero = omega arith
+getD-zip-add-le (x ∷ xs) (y ∷ ys) (suc i) = getD-zip-add-le xs ys i
+
+module _ (letter : rule.Letter) (extra : ℕ) (on : List Line) where
+  abbrev firstGains : List ℕ
+  firstGains = gainsOf (firstFill letter extra on .tracks)
+
+  rest-fresh : Fresh (zipWith (restTrack letter on) on firstGains)
+  rest-fresh = zip-fresh (restTrack letter on) (λ (l : Line) (g : ℕ). refl) on firstGains
+
+  length-first : length firstGains ≡ length on
+  length-first = length-gains extra (map (firstTrack letter) on) (first-fresh letter on) ∙ length-map on (firstTrack letter)
+
+  length-rest : length (gainsOf (fill (firstFill letter extra on .left) (zipWith (restTrack letter on) on firstGains) .tracks)) ≡ length on
+  length-rest = length-gains (firstFill letter extra on .left) (zipWith (restTrack letter on) on firstGains) rest-fresh ∙ length-zip (restTrack letter on) on firstGains (sym length-first)
+
+  pub length-shares : length (shares letter extra on) ≡ length on
+  unfolding shares
+  length-shares = length-zip _+_ firstGains (gainsOf (fill (firstFill letter extra on .left) (zipWith (restTrack letter on) on firstGains) .tracks)) (length-first ∙ sym length-rest) ∙ length-first
+
+  -- no line gains more than there is
+  pub shares-le : (i : ℕ) → getD (shares letter extra on) i 0 ≤ extra
+  unfolding shares
+  shares-le i =
+      let a = getD-zip-add-le firstGains (gainsOf (fill (firstFill letter extra on .left) (zipWith (restTrack letter on) on firstGains) .tracks)) i in
+      let b = gain-add-left-le extra (map (firstTrack letter) on) (first-fresh letter on) i in
+      let d = gain-add-left-le (firstFill letter extra on .left) (zipWith (restTrack letter on) on firstGains) rest-fresh i in
+      omega arith
+
+-- ---- the larger of each two
+
+length-larger : (gs ps : List ℕ) → length (larger gs ps) ≡ length ps
+unfolding larger
+length-larger [] ps = refl
+length-larger (g ∷ gs) [] = refl
+length-larger (g ∷ gs) (p ∷ ps) = ap suc (length-larger gs ps)
+
+length-larger-from : (i : ℕ) (gs ps : List ℕ) → length (largerFrom i gs ps) ≡ length ps
+unfolding largerFrom
+length-larger-from zero gs ps = length-larger gs ps
+length-larger-from (suc i) gs [] = refl
+length-larger-from (suc i) gs (p ∷ ps) = ap suc (length-larger-from i gs ps)
+
+larger-le : (gs ps : List ℕ) (i m : ℕ) → getD gs i 0 ≤ m → getD ps i 0 ≤ m → getD (larger gs ps) i 0 ≤ m
+unfolding larger
+larger-le [] ps i m g p = p
+larger-le (g ∷ gs) [] i m h p = p
+larger-le (g ∷ gs) (q ∷ ps) zero m h p = omega arith
+larger-le (g ∷ gs) (q ∷ ps) (suc i) m h p = larger-le gs ps i m h p
+
+larger-from-le : (s : ℕ) (gs ps : List ℕ) (i m : ℕ) → ((j : ℕ) → s + j ≡ i → getD gs j 0 ≤ m) → getD ps i 0 ≤ m → getD (largerFrom s gs ps) i 0 ≤ m
+unfolding largerFrom
+larger-from-le zero gs ps i m g p = larger-le gs ps i m (g i (omega arith)) p
+larger-from-le (suc s) gs [] i m g p = p
+larger-from-le (suc s) gs (q ∷ ps) zero m g p = p
+larger-from-le (suc s) gs (q ∷ ps) (suc i) m g p = larger-from-le s gs ps i m (λ (j : ℕ) (e : s + j ≡ i). g j (omega arith)) p
+
+-- ---- the increases of a batch
+
+length-in-turn : (letter : rule.Letter) (c : Constraint) (ls : List Line) (batch : List Measured) (ps : List ℕ)
+    → length (inTurn (increasedBy letter c ls) batch ps) ≡ length ps
+unfolding inTurn
+length-in-turn letter c ls [] ps = refl
+length-in-turn letter c ls (i ∷ batch) ps =
+    length-in-turn letter c ls batch (increasedBy letter c ls i ps) ∙ length-larger-from (i .start) (gainsBy letter c i (spanned i ls)) ps
+
+-- as many as the lines
+pub length-increases : (letter : rule.Letter) (c : Constraint) (batch : List Measured) (ls : List Line) → length (increases letter c batch ls) ≡ length ls
+unfolding increases
+length-increases letter c batch ls = length-in-turn letter c ls batch (replicate (length ls) 0) ∙ length-replicate (length ls) 0
+
+pub length-raise : (letter : rule.Letter) (c : Constraint) (batch : List Measured) (ls : List Line) → length (raise c batch letter ls) ≡ length ls
+unfolding raise
+length-raise letter c batch ls = length-zip (letter .grown) ls (increases letter c batch ls) (sym (length-increases letter c batch ls))
+
+-- ---- a contribution is within its limit, and so is what it is measured against
+
+cut-le : (m : Limit) (n : ℕ) → cut m n ≤ n
+cut-le None n = omega arith
+cut-le (UpTo m) n = omega arith
+
+limited-le : (n : ℕ) (i : Measured) (ls : List Line) → n ≤ mostContribution → i .minimum ≤ mostContribution → limited n i ls ≤ mostContribution
+limited-le n i ls h m = let k = cut-le (maxima ls) n in max-le (i .minimum) (cut (maxima ls) n) mostContribution m (le-trans k h)
+  where
+    max-le : (a b k : ℕ) → a ≤ k → b ≤ k → max a b ≤ k
+    max-le a b k p q = omega arith
+
+for-auto-le : {n : ℕ} (c : Constraint) (i : Measured) (ls : List Line) → MeasuredFits n i → forAuto c i ls ≤ mostContribution
+for-auto-le (Definite d) i ls f = f .minimum
+for-auto-le MinContent i ls f = limited-le (i .«min_content») i ls (f .min-content) (f .minimum)
+for-auto-le MaxContent i ls f = limited-le (i .«min_content») i ls (f .min-content) (f .minimum)
+
+contribution-le : {n : ℕ} (letter : Letter) (c : Constraint) (i : Measured) (ls : List Line) → MeasuredFits n i → letterOf letter .contribution c i ls ≤ mostContribution
+contribution-le A c i ls f = for-auto-le c i ls f
+contribution-le B c i ls f = f .min-content
+contribution-le C c i ls f = limited-le (i .«max_content») i ls (f .max-content) (f .minimum)
+contribution-le D c i ls f = f .max-content
+contribution-le E c i ls f = f .min-content
+contribution-le F c i ls f = f .max-content
+
+pub extra-le : {n : ℕ} (letter : Letter) (c : Constraint) (i : Measured) (on : List Line) → MeasuredFits n i → extraOf (letterOf letter) c i on ≤ mostContribution
+extra-le letter c i on f = let h = contribution-le letter c i on f in omega arith
+
+or-base-le : (limit : Limit) (base k : ℕ) → limitNumber limit ≤ k → base ≤ k → orBase limit base ≤ k
+or-base-le None base k h b = b
+or-base-le (UpTo n) base k h b = h
+
+pub present-le : (letter : Letter) (l : Line) → LineFits l → letterOf letter .present l ≤ mostSize
+present-le A l f = f .base
+present-le B l f = f .base
+present-le C l f = f .base
+present-le D l f = f .base
+present-le E l f = or-base-le (l .limit) (l .base) mostSize (f .limit) (f .base)
+present-le F l f = or-base-le (l .limit) (l .base) mostSize (f .limit) (f .base)
+
+-- ---- no increase takes a line over the limit
+
+-- the line at the place j of those spanned
+spanned-at : (i : Measured) (ls : List Line) (j : ℕ) (d : Line) → j < length (spanned i ls) → getD (spanned i ls) j d ≡ getD ls (i .start + j) d
+spanned-at i ls j d h =
+    let e = length-take (i .span) (drop (i .start) ls) in
+    let k : j < i .span = omega arith in
+    getD-take (i .span) (drop (i .start) ls) j d k ∙ getD-drop (i .start) ls j d
+
+-- what a line has is in the sum of what the lines have
+present-le-sum : (present : Line → ℕ) (on : List Line) (j : ℕ) (d : Line) → j < length on → present (getD on j d) ≤ sum (map present on)
+present-le-sum present on j d h =
+    rw (← List·getD-map present on j d) (le-trans (same (map present on) j (present d) (rw (length-map on present) h)) (getD-le-sum (map present on) j))
+  where
+    same : (xs : List ℕ) (k d : ℕ) → k < length xs → getD xs k d ≤ getD xs k 0
+    same [] k d h = absurd (omega arith)
+    same (x ∷ xs) zero d h = omega arith
+    same (x ∷ xs) (suc k) d h = same xs k d (le-of-suc-le-suc h)
+
+module _ (letter : Letter) (c : Constraint) (ls : List Line) (d : Line) where
+  -- room above the line at the place k, up to the limit
+  abbrev above : ℕ → ℕ
+  above k = mostSize - letterOf letter .present (getD ls k d)
+
+  gain-fits : {n : ℕ} (i : Measured) (j : ℕ) → MeasuredFits n i → getD (gainsBy (letterOf letter) c i (spanned i ls)) j 0 ≤ above (i .start + j)
+  unfolding gainsBy
+  gain-fits i j f =
+      ⊎-elim
+      (λ (h : j < length (spanned i ls)).
+      let le = shares-le (letterOf letter) (extraOf (letterOf letter) c i (spanned i ls)) (spanned i ls) j in
+      let asked = contribution-le letter c i (spanned i ls) f in
+      let had : letterOf letter .present (getD ls (i .start + j) d) ≤ sum (map (letterOf letter .present) (spanned i ls)) =
+      rw (spanned-at i ls j d h) at (present-le-sum (letterOf letter .present) (spanned i ls) j d h) in
+      omega arith)
+      (λ (h : length (spanned i ls) ≤ j).
+      let z : getD (shares (letterOf letter) (extraOf (letterOf letter) c i (spanned i ls)) (spanned i ls)) j 0 ≡ 0 =
+      List·getD-eq-default (shares (letterOf letter) (extraOf (letterOf letter) c i (spanned i ls)) (spanned i ls)) 0 (rw (length-shares (letterOf letter) (extraOf (letterOf letter) c i (spanned i ls)) (spanned i ls)) h) in
+      omega arith)
+      (lt-or-ge j (length (spanned i ls)))
+
+  in-turn-fits : (n : ℕ) (batch : List Measured) (ps : List ℕ) (k : ℕ) → MeasuredFit n batch → getD ps k 0 ≤ above k → getD (inTurn (increasedBy (letterOf letter) c ls) batch ps) k 0 ≤ above k
+  unfolding inTurn All
+  in-turn-fits n [] ps k f h = h
+  in-turn-fits n (i ∷ batch) ps k f h =
+      in-turn-fits n batch (increasedBy (letterOf letter) c ls i ps) k (f .1)
+      (larger-from-le (i .start) (gainsBy (letterOf letter) c i (spanned i ls)) ps k (above k)
+      (λ (j : ℕ) (e : i .start + j ≡ k). rw e at (gain-fits i j (f .0))) h)
+
+  pub increases-fit : (n : ℕ) (batch : List Measured) → LinesFit ls → MeasuredFit n batch → (k : ℕ) → k < length ls
+      → letterOf letter .present (getD ls k d) + getD (increases (letterOf letter) c batch ls) k 0 ≤ mostSize
+  unfolding increases
+  increases-fit n batch fl fb k h =
+      let p = present-le letter (getD ls k d) (all-at LineFits ls k d fl h) in
+      let z : getD (replicate (length ls) 0) k 0 ≤ above k = zeros (length ls) k (above k) in
+      let q = in-turn-fits n batch (replicate (length ls) 0) k fb z in
+      omega arith
+    where
+      zeros : (n k m : ℕ) → getD (replicate n 0) k 0 ≤ m
+      zeros zero k m = zero-le
+      zeros (suc n) zero m = zero-le
+      zeros (suc n) (suc k) m = zeros n k m
+
+-- as `apply` asks it, of rows
+pub increases-fit-rows : (letter : Letter) (c : Constraint) (n : ℕ) (batch : List Measured) (rows : List Row) → LinesFit (linesOf rows) → MeasuredFit n batch
+    → (i : ℕ) → i < length rows → letterOf letter .present (lineOf (getD rows i [])) + getD (increases (letterOf letter) c batch (linesOf rows)) i 0 ≤ most
+increases-fit-rows letter c n batch rows fl fb i h =
+    let k = increases-fit letter c (linesOf rows) (lineOf []) n batch fl fb i (rw (length-map rows lineOf) h) in
+    le-trans (rw (List·getD-map lineOf rows i []) at k) (omega arith)
+
+-- ---- a raised line is within the limit
+
+at-least-le : (base k : ℕ) (limit : Limit) → base ≤ k → limitNumber limit ≤ k → limitNumber (atLeast base limit) ≤ k
+at-least-le base k None b h = h
+at-least-le base k (UpTo n) b h = omega arith
+
+limit-plus-le : (base increase k : ℕ) (limit : Limit) → orBase limit base + increase ≤ k → limitNumber (limitPlus base increase limit) ≤ k
+limit-plus-le base increase k None h = go (ltb 0 increase)
+  where
+    go : (b : Bool) → limitNumber (cond b (UpTo (base + increase)) None) ≤ k
+    go true = h
+    go false = zero-le
+limit-plus-le base increase k (UpTo n) h = h
+
+grown-fits : (letter : Letter) (l : Line) (increase : ℕ) → LineFits l → letterOf letter .present l + increase ≤ mostSize → LineFits (letterOf letter .grown l increase)
+grown-fits A l increase f h = record { track = f .track; base = h; limit = f .limit }
+grown-fits B l increase f h = record { track = f .track; base = h; limit = f .limit }
+grown-fits C l increase f h = record { track = f .track; base = h; limit = f .limit }
+grown-fits D l increase f h = record { track = f .track; base = h; limit = at-least-le (l .base + increase) mostSize (l .limit) h (f .limit) }
+grown-fits E l increase f h = record { track = f .track; base = f .base; limit = limit-plus-le (l .base) increase mostSize (l .limit) h }
+grown-fits F l increase f h = record { track = f .track; base = f .base; limit = limit-plus-le (l .base) increase mostSize (l .limit) h }
+
+all-grown : (letter : Letter) (d : Line) (ls : List Line) (xs : List ℕ) → LinesFit ls
+    → ((i : ℕ) → i < length ls → letterOf letter .present (getD ls i d) + getD xs i 0 ≤ mostSize) → LinesFit (zipWith (letterOf letter .grown) ls xs)
+unfolding zipWith All
+all-grown letter d [] xs f h = tt
+all-grown letter d (l ∷ ls) [] f h = tt
+all-grown letter d (l ∷ ls) (x ∷ xs) f h = (
+  grown-fits letter l x (f .0) (h 0 (omega arith)),
+  all-grown letter d ls xs (f .1) (λ (i : ℕ) (k : i < length ls). h (suc i) (omega arith)),
+)
+
+pub raise-fits : (letter : Letter) (c : Constraint) (n : ℕ) (batch : List Measured) (ls : List Line) → LinesFit ls → MeasuredFit n batch
+    → LinesFit (raise c batch (letterOf letter) ls)
+unfolding raise
+raise-fits letter c n batch ls fl fb = all-grown letter (lineOf []) ls (increases (letterOf letter) c batch ls) fl (increases-fit letter c ls (lineOf []) n batch fl fb)

@@ -1,0 +1,51 @@
+-- A turn and the end of each loop of a share, said of lists. Assumes nothing.
+use mathlib.Core.Path.{_≡_, refl}
+use mathlib.Core.List.{List, [], _∷_, zipWith}
+use Prim.Native.Nat.{ℕ, zero, suc, _+_, _-_, _≤_, _<_}
+use native.Mathlib.Nat.{le-of-suc-le-suc, not-suc-le-zero}
+use lib.ListN.{length, getD, drop}
+use Rattle.laws.specs.Walk.{next}
+use Rattle.fill.specs.Rule as fill
+use Rattle.fill.specs.Rests.{capOf, caps, lost}
+use Rattle.kinds.specs.Kinds.{Row}
+use Rattle.lines.specs.Rows.{lineOf, linesOf}
+use Rattle.letters.specs.declared.share.Share.{Share}
+use Rattle.letters.specs.Shares.{shareTrack, shareTracks}
+use Rattle.letters.proofs.Steps.{linesFrom, lines-next, lines-end}
+
+module _ (share : Share) (dots : ℕ) (rows : List Row) where
+  -- the tracks of a share from the place i on
+  abbrev pub tracksFrom : List ℕ → ℕ → List fill.Track
+  tracksFrom gains i = shareTracks share (linesFrom rows i) (drop i gains)
+
+  pub caps-step : (gains : List ℕ) (i v : ℕ) → i < length rows → i < length gains → v ≡ capOf dots (shareTrack share (lineOf (getD rows i [])) (getD gains i 0))
+      → caps dots (tracksFrom gains i) ≡ v ∷ caps dots (tracksFrom gains (i + 1))
+  unfolding caps shareTracks zipWith
+  caps-step gains i v h g e = rw (lines-next rows i h, next gains i 0 g, e) refl
+
+  pub caps-end : (gains : List ℕ) (i : ℕ) → length rows ≤ i → caps dots (tracksFrom gains i) ≡ []
+  unfolding caps shareTracks zipWith
+  caps-end gains i h = rw (lines-end rows i h) refl
+
+  -- what is gained from the place i on
+  abbrev pub gainedFrom : List ℕ → ℕ → List ℕ → List ℕ
+  gainedFrom rests i gains = zipWith _+_ gains (lost (caps dots (shareTracks share (linesFrom rows i) gains)) (drop i rests))
+
+  pub gained-step : (rests : List ℕ) (i x v : ℕ) (xs : List ℕ) → i < length rows → i < length rests → v ≡ x + (capOf dots (shareTrack share (lineOf (getD rows i [])) x) - getD rests i 0)
+      → gainedFrom rests i (x ∷ xs) ≡ v ∷ gainedFrom rests (i + 1) xs
+  unfolding caps shareTracks zipWith lost
+  gained-step rests i x v xs h r e = rw (lines-next rows i h, next rests i 0 r, e) refl
+
+  pub gained-nil : (rests : List ℕ) (i : ℕ) → gainedFrom rests i [] ≡ []
+  unfolding zipWith
+  gained-nil rests i = refl
+
+-- what the track at the place i lost
+pub lost-at : (share : Share) (dots : ℕ) (rows : List Row) (gains rests : List ℕ) (i : ℕ) → i < length rows → i < length gains → i < length rests
+    → getD (lost (caps dots (shareTracks share (linesOf rows) gains)) rests) i 0 ≡ capOf dots (shareTrack share (lineOf (getD rows i [])) (getD gains i 0)) - getD rests i 0
+unfolding caps shareTracks zipWith lost
+lost-at share dots [] gains rests i h g r = absurd (not-suc-le-zero h)
+lost-at share dots (row ∷ rows) [] rests i h g r = absurd (not-suc-le-zero g)
+lost-at share dots (row ∷ rows) (x ∷ gains) [] i h g r = absurd (not-suc-le-zero r)
+lost-at share dots (row ∷ rows) (x ∷ gains) (y ∷ rests) zero h g r = refl
+lost-at share dots (row ∷ rows) (x ∷ gains) (y ∷ rests) (suc i) h g r = lost-at share dots rows gains rests i (le-of-suc-le-suc h) (le-of-suc-le-suc g) (le-of-suc-le-suc r)

@@ -1,0 +1,27 @@
+-- What the code's shares make of a line: a track in a fill, as the rule has it. Assumes nothing.
+use Prim.Native.Nat.{ℕ}
+use mathlib.Core.Bool.{Bool, not, _&&_, _||_}
+use mathlib.Core.List.{List, zipWith}
+use Rattle.fill.specs.Rule as fill
+use Rattle.lines.specs.declared.line.Line.{Line}
+use Rattle.lines.specs.Rule.{inFill, firstTrack, maximiseTrack, stretchTrack}
+use Rattle.lines.specs.Rule as rule
+use Rattle.letters.specs.declared.share.Share.{Share}
+use Rattle.letters.specs.declared.share.Share.the-variants.{First, Rest, Maximise, Stretch}
+use Rattle.letters.specs.Letters.{letterOf}
+
+-- an affected track that takes what remains
+abbrev pub isTaker : rule.Letter → Line → Bool
+isTaker letter l = letter .affected l && letter .takes l
+
+abbrev pub restOf : rule.Letter → Bool → Line → ℕ → fill.Track
+restOf letter narrow l gain = inFill (letter .affected l && (letter .takes l || not narrow)) (letter .restRoom l gain)
+
+abbrev pub shareTrack : Share → Line → ℕ → fill.Track
+shareTrack (First letter) l gain = firstTrack (letterOf letter) l
+shareTrack (Rest letter narrow) l gain = restOf (letterOf letter) narrow l gain
+shareTrack Maximise l gain = maximiseTrack l
+shareTrack Stretch l gain = stretchTrack l
+
+unfoldable pub shareTracks : Share → List Line → List ℕ → List fill.Track
+shareTracks share ls gains = zipWith (shareTrack share) ls gains

@@ -1,0 +1,125 @@
+// What an item contributes to a letter, and the dots that it asks beyond the sizes it spans.
+use crate::letter::Letter;
+use kinds::Constraint;
+use kinds::Maximum;
+use lines::Limit;
+use lines::Line;
+use lines::Measured;
+use lines::larger;
+ghost use mathlib.Core.Path.{_≡_};
+ghost use mathlib.Core.List.{map};
+ghost use Prim.Native.Nat.{ℕ, _-_, _≤_};
+ghost use lib.ListN.{length};
+ghost use Rattle.laws.specs.Sums.{sum};
+ghost use Rattle.fill.specs.Rule.{mostTracks};
+ghost use Rattle.lines.specs.Rule.{maxima, limited, forAuto, extraOf};
+ghost use Rattle.lines.specs.Rows.{linesOf};
+ghost use Rattle.lines.specs.Fits.{LinesFit};
+ghost use Rattle.letters.specs.Letters.{letterOf, fixedMaximum};
+
+// The number of a maximum that is fixed or fit-content.
+fn fixed_maximum(line: Line) -> Limit
+    ensures { λ r. ⌜ r ≡ fixedMaximum (line .track .maximum) ⌝ }
+{
+    let track = line.track;
+    let maximum = track.maximum;
+    match maximum {
+        Maximum::Fixed(n) => Limit::UpTo(n),
+        Maximum::Auto => Limit::None,
+        Maximum::MinContent => Limit::None,
+        Maximum::MaxContent => Limit::None,
+        Maximum::FitContent(n) => Limit::UpTo(n),
+        Maximum::Fr(_) => Limit::None,
+    }
+}
+
+// The sum of the spanned maxima when all are fixed or fit-content.
+fn maxima(lines: &[[u32; 8]]) -> Limit
+    requires { ⌜ (length (now lines) ≤ mostTracks) × LinesFit (linesOf (now lines)) ⌝ }
+    ensures { λ r. ⌜ r ≡ maxima (linesOf (now (lines .entry))) ⌝ }
+{
+    let mut sum: u32 = 0;
+    let mut i = 0;
+    while i < lines.len() {
+        let maximum = fixed_maximum(Line::of_row(lines[i]));
+        if let Limit::UpTo(n) = maximum {
+            sum += n;
+        } else {
+            return Limit::None;
+        }
+        i += 1;
+    }
+    Limit::UpTo(sum)
+}
+
+// Cut to the sum of the maxima, then raised to the minimum contribution.
+fn limited(n: u32, item: Measured, lines: &[[u32; 8]]) -> u32
+    requires { ⌜ (length (now lines) ≤ mostTracks) × LinesFit (linesOf (now lines)) ⌝ }
+    ensures { λ r. ⌜ r ≡ limited n item (linesOf (now (lines .entry))) ⌝ }
+{
+    let most = maxima(lines);
+    let cut = most.cut(n);
+    larger(item.minimum, cut)
+}
+
+// The minimum contribution, or under a min- or max-content constraint the limited min-content one.
+pub fn for_auto(constraint: Constraint, item: Measured, lines: &[[u32; 8]]) -> u32
+    requires { ⌜ (length (now lines) ≤ mostTracks) × LinesFit (linesOf (now lines)) ⌝ }
+    ensures { λ r. ⌜ r ≡ forAuto constraint item (linesOf (now (lines .entry))) ⌝ }
+{
+    match constraint {
+        Constraint::Definite(_) => item.minimum,
+        Constraint::MinContent => limited(item.min_content, item, lines),
+        Constraint::MaxContent => limited(item.min_content, item, lines),
+    }
+}
+
+fn contribution(letter: Letter, constraint: Constraint, item: Measured, lines: &[[u32; 8]]) -> u32
+    requires { ⌜ (length (now lines) ≤ mostTracks) × LinesFit (linesOf (now lines)) ⌝ }
+    ensures { λ r. ⌜ r ≡ letterOf letter .contribution constraint item (linesOf (now (lines .entry))) ⌝ }
+{
+    match letter {
+        Letter::A => for_auto(constraint, item, lines),
+        Letter::B => item.min_content,
+        Letter::C => limited(item.max_content, item, lines),
+        Letter::D => item.max_content,
+        Letter::E => item.min_content,
+        Letter::F => item.max_content,
+    }
+}
+
+// The sizes that a letter measures against, all together.
+pub fn present_total(letter: Letter, lines: &[[u32; 8]]) -> u64
+    requires { ⌜ length (now lines) ≤ mostTracks ⌝ }
+    ensures { λ r. ⌜ r ≡ sum (map (letterOf letter .present) (linesOf (now (lines .entry)))) ⌝ }
+{
+    let mut total: u64 = 0;
+    let mut i = 0;
+    while i < lines.len() {
+        let size = letter.present(Line::of_row(lines[i]));
+        total += size as u64;
+        i += 1;
+    }
+    total
+}
+
+// So many dots without a total, at least 0.
+pub fn beyond(dots: u32, total: u64) -> u32
+    ensures { λ r. ⌜ r ≡ dots - total ⌝ }
+{
+    let all = dots as u64;
+    if all <= total {
+        return 0;
+    }
+    (all - total) as u32
+}
+
+// The dots that an item asks beyond the sizes of the lines that it spans.
+pub fn extra(letter: Letter, constraint: Constraint, item: Measured, lines: &[[u32; 8]]) -> u32
+    requires { ⌜ (length (now lines) ≤ mostTracks) × LinesFit (linesOf (now lines)) ⌝ }
+    ensures { λ r. ⌜ r ≡ extraOf (letterOf letter) constraint item (linesOf (now (lines .entry))) ⌝ }
+{
+    let asked = contribution(letter, constraint, item, lines);
+    let total = present_total(letter, lines);
+    beyond(asked, total)
+}

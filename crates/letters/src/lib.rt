@@ -1,0 +1,17 @@
+// The lettered steps of the longer spans on the lines that an item spans: extra dots shared out by the fill, increases planned
+// and applied (lines/specs/Rule.antt is the rule). Its functions are for the sizing: each says what it asks.
+mod contribution;
+mod increase;
+mod letter;
+mod share;
+
+pub use contribution::beyond;
+pub use contribution::extra;
+pub use contribution::for_auto;
+pub use contribution::present_total;
+pub use increase::apply;
+pub use increase::lay_over;
+pub use letter::Letter;
+pub use share::Share;
+pub use share::share_extra;
+pub use share::share_out;

@@ -1,0 +1,176 @@
+// A share of dots among lines: each gets what the fill gives it, on top of the gain that it has. The rests are scratch: what
+// stands in them is not read.
+use crate::letter::Letter;
+use fill::Rounds;
+use fill::run_rounds;
+use kinds::Maximum;
+use lines::Limit;
+use lines::Line;
+use lines::less;
+ghost use mathlib.Core.Path.{_≡_};
+ghost use mathlib.Core.Bool.{cond, not, _&&_, _||_};
+ghost use mathlib.Core.List.{[], _∷_, zipWith};
+ghost use Prim.Native.Nat.{ℕ, _+_, _≤_};
+ghost use lib.ListN.{length, getD, replicate};
+ghost use Rattle.laws.specs.Lists.{some};
+ghost use Rattle.fill.specs.Rule.{mostTracks, mostDots, fill};
+ghost use Rattle.fill.specs.Rests.{capIn, capOf, caps, lost};
+ghost use Rattle.lines.specs.Rule.{maxIn, moreGains, shares};
+ghost use Rattle.lines.specs.Rows.{linesOf, roomOf};
+ghost use Rattle.letters.specs.Letters.{letterOf, most};
+ghost use Rattle.letters.specs.Shares.{shareTrack, shareTracks, isTaker};
+
+// What is shared out: the first share of a letter, what remains of it, the dots of step 5, or those of step 7. `narrow` says
+// that some affected track takes what remains, so that the others do not.
+pub enum Share {
+    First { letter: Letter },
+    Rest { letter: Letter, narrow: bool },
+    Maximise,
+    Stretch,
+}
+
+// A track that is not affected takes nothing.
+fn cap_of(affected: bool, room: Limit, dots: u32) -> u32
+    ensures { λ r. ⌜ r ≡ cond affected (capIn dots (roomOf room)) 0 ⌝ }
+{
+    if affected {
+        return room.cap(dots);
+    }
+    0
+}
+
+fn takes_rest(letter: Letter, narrow: bool, line: Line) -> bool
+    ensures { λ r. ⌜ r ≡ (letterOf letter .affected line && (letterOf letter .takes line || not narrow)) ⌝ }
+{
+    let affected = letter.affected(line);
+    let takes = letter.takes(line);
+    if narrow {
+        return affected & takes;
+    }
+    affected
+}
+
+fn is_auto(line: Line) -> bool
+    ensures { λ r. ⌜ r ≡ maxIn (2 ∷ []) line ⌝ }
+{
+    let track = line.track;
+    let maximum = track.maximum;
+    match maximum {
+        Maximum::Fixed(_) => false,
+        Maximum::Auto => true,
+        Maximum::MinContent => false,
+        Maximum::MaxContent => false,
+        Maximum::FitContent(_) => false,
+        Maximum::Fr(_) => false,
+    }
+}
+
+impl Share {
+    // The most that a line can take of the dots.
+    fn cap(self, line: Line, gain: u32, dots: u32) -> u32
+        ensures { λ r. ⌜ r ≡ capOf dots (shareTrack self line gain) ⌝ }
+    {
+        match self {
+            Share::First { letter } => cap_of(letter.affected(line), letter.room(line), dots),
+            Share::Rest { letter, narrow } => {
+                cap_of(
+                    takes_rest(letter, narrow, line),
+                    letter.rest_room(line, gain),
+                    dots,
+                )
+            }
+            Share::Maximise => cap_of(true, line.base_room(), dots),
+            Share::Stretch => cap_of(is_auto(line), Limit::None, dots),
+        }
+    }
+}
+
+fn load(share: Share, dots: u32, lines: &[[u32; 8]], gains: &[u32], rests: &mut [u32])
+    requires { ⌜ (length (now gains) ≡ length (now lines)) × (length (now rests) ≡ length (now lines)) ⌝ }
+    ensures { λ _. ⌜ now (rests .exit) ≡ caps dots (shareTracks share (linesOf (now (lines .entry))) (now (gains .entry))) ⌝ }
+{
+    let mut i = 0;
+    while i < rests.len() {
+        rests[i] = share.cap(Line::of_row(lines[i]), gains[i], dots);
+        i += 1;
+    }
+}
+
+// What each rest lost is gained.
+fn collect(share: Share, dots: u32, lines: &[[u32; 8]], rests: &[u32], gains: &mut [u32])
+    requires { ⌜ (length (now gains) ≡ length (now lines)) × (length (now rests) ≡ length (now lines)) × ((i : ℕ) → getD (now gains) i 0 + getD (lost (caps dots (shareTracks share (linesOf (now lines)) (now gains))) (now rests)) i 0 ≤ most) ⌝ }
+    ensures { λ _. ⌜ now (gains .exit) ≡ zipWith _+_ (now (gains .entry)) (lost (caps dots (shareTracks share (linesOf (now (lines .entry))) (now (gains .entry)))) (now (rests .entry))) ⌝ }
+{
+    let mut i = 0;
+    while i < gains.len() {
+        let gain = gains[i];
+        let cap = share.cap(Line::of_row(lines[i]), gain, dots);
+        gains[i] = gain + less(cap, rests[i]);
+        i += 1;
+    }
+}
+
+// The dots are filled in. What is left of them, and the rounds, come back.
+pub fn share_out(
+    share: Share,
+    dots: u32,
+    lines: &[[u32; 8]],
+    gains: &mut [u32],
+    rests: &mut [u32],
+) -> Rounds
+    requires { ⌜ (length (now gains) ≡ length (now lines)) × (length (now rests) ≡ length (now lines)) × (length (now lines) ≤ mostTracks) × (dots ≤ mostDots) × ((i : ℕ) → getD (now gains) i 0 ≤ mostDots) ⌝ }
+    ensures { λ r. ⌜ (now (gains .exit) ≡ moreGains (now (gains .entry)) (fill dots (shareTracks share (linesOf (now (lines .entry))) (now (gains .entry))))) × (r .left ≡ fill dots (shareTracks share (linesOf (now (lines .entry))) (now (gains .entry))) .left) × (r .rounds ≡ fill dots (shareTracks share (linesOf (now (lines .entry))) (now (gains .entry))) .rounds) ⌝ }
+{
+    load(share, dots, lines, gains, rests);
+    let done = run_rounds(dots, rests);
+    collect(share, dots, lines, rests, gains);
+    done
+}
+
+fn clear(gains: &mut [u32])
+    ensures { λ _. ⌜ now (gains .exit) ≡ replicate (length (now (gains .entry))) 0 ⌝ }
+{
+    let mut i = 0;
+    while i < gains.len() {
+        gains[i] = 0;
+        i += 1;
+    }
+}
+
+// Some affected track takes what remains.
+fn some_taker(letter: Letter, lines: &[[u32; 8]]) -> bool
+    ensures { λ r. ⌜ r ≡ some (isTaker (letterOf letter)) (linesOf (now (lines .entry))) ⌝ }
+{
+    let mut i = 0;
+    while i < lines.len() {
+        let line = Line::of_row(lines[i]);
+        if letter.affected(line) & letter.takes(line) {
+            return true;
+        }
+        i += 1;
+    }
+    false
+}
+
+// Both shares of a letter's extra dots.
+pub fn share_extra(
+    letter: Letter,
+    extra: u32,
+    lines: &[[u32; 8]],
+    gains: &mut [u32],
+    rests: &mut [u32],
+)
+    requires { ⌜ (length (now gains) ≡ length (now lines)) × (length (now rests) ≡ length (now lines)) × (length (now lines) ≤ mostTracks) × (extra ≤ mostDots) ⌝ }
+    ensures { λ _. ⌜ now (gains .exit) ≡ shares (letterOf letter) extra (linesOf (now (lines .entry))) ⌝ }
+{
+    clear(gains);
+    let first = share_out(Share::First { letter }, extra, lines, gains, rests);
+    let narrow = some_taker(letter, lines);
+    share_out(
+        Share::Rest { letter, narrow },
+        first.left,
+        lines,
+        gains,
+        rests,
+    );
+}

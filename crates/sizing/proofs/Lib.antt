@@ -1,0 +1,9 @@
+pub mod Difference
+pub mod Places
+pub mod Bases
+pub mod Filled
+pub mod FreeFits
+pub mod Finished
+pub mod Contents
+pub mod Sized
+pub mod Store

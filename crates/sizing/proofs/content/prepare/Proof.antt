@@ -1,0 +1,73 @@
+-- `prepare` starts the lines, gathers the batches and takes the items in one track. Assumes nothing.
+use borrow.Author.Needs.{needs}
+use Rattle.sizing.proofs.content.prepare.Statement.{statement}
+use mathlib.Core.Path.{_≡_, ap, sym, _∙_, subst}
+use mathlib.Core.List.{map}
+use Prim.Native.Nat.{ℕ, _≤_, _<_}
+use native.Mathlib.Omega.{arith}
+use lib.ListN.{length, getD, length-map}
+use Rattle.kinds.specs.Kinds.{trackOf, itemOf}
+use Rattle.lines.specs.Fits.{LinesFit}
+use Rattle.lines.proofs.Fits.{start-fits}
+use Rattle.chains.proofs.Batches.{gathered-fits}
+use Rattle.spans.proofs.Raised.{chain-fits-as}
+use Rattle.sizing.proofs.Contents.{items-fit-as, prepared}
+use Rattle.sizing.proofs.content.prepare.Tie as tie
+use Rattle.sizing.proofs.content.prepare.Reads as reads
+use Rattle.sizing.proofs.content.prepare.Lts as lts
+use Rattle.chains.proofs.gather.Reads as gather-reads
+use Rattle.lines.proofs.start.Reads as start-reads
+use Rattle.spans.proofs.singles.Reads as singles-reads
+
+start-requires : tie.Need-start-requires
+start-requires c κs = search needs
+
+gather-requires : tie.Need-gather-requires
+gather-requires c κs = search needs
+
+slice-read-singles : tie.Need-slice-read-singles
+slice-read-singles c = search needs
+
+singles-requires : tie.Need-singles-requires
+singles-requires c κs =
+    let s = c .before .before .before .before .before .before .before .before .before .before .before .before .before .before .before in
+    let a = s .args in
+    let ts = map trackOf (a .tracks .now) in
+    let long = length-map (a .tracks .now) trackOf in
+    let few : length ts ≤ 256 = omega (arith, s .pre .0) in
+    let back = sym long in
+    let f = gathered-fits ts (a .items .now) _ _ few (items-fit-as (map itemOf (a .items .now)) long (s .pre .5)) (search needs) (c .before .before .before .before .before .before .before .gather .ensures) 1 (omega arith) (omega arith) in
+    (subst LinesFit (sym (c .before .before .before .before .before .before .before .before .before .before .before .start .ensures)) (start-fits ts (s .pre .4)), chain-fits-as (a .items .now) _ _ (search needs) f)
+
+same-length : tie.Need-same-length
+same-length c = search needs
+
+same-length-2 : tie.Need-same-length-2
+same-length-2 c = search needs
+
+same-length-3 : tie.Need-same-length-3
+same-length-3 c = search needs
+
+returns : tie.Need-returns
+returns c =
+    let s = c .before .before .before .before .before .before .before .before .before .before .before .before .before .before .before .before .before in
+    let a = s .args in
+    let ts = map trackOf (a .tracks .now) in
+    let long = length-map (a .tracks .now) trackOf in
+    let few : length ts ≤ 256 = omega (arith, s .pre .0) in
+    let e = c .before .singles .ensures in
+    let g = c .before .before .before .before .before .before .before .before .before .gather .ensures in
+    (prepared (a .constraint) ts (a .items .now) _ _ few (items-fit-as (map itemOf (a .items .now)) long (s .pre .5)) (search needs) g _ _ (c .before .before .before .before .before .before .before .before .before .before .before .before .before .start .ensures) (e .0), e .1, g)
+
+pub prepare-spec : {M : Type 1} → statement M
+prepare-spec =
+    tie.close
+    (tie.spec
+    start-requires
+    gather-requires
+    slice-read-singles
+    singles-requires
+    same-length
+    same-length-2
+    same-length-3
+    returns)

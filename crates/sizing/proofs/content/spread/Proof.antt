@@ -1,0 +1,73 @@
+-- `spread` takes the longer spans, the last batch and the missing limits. Assumes nothing.
+use borrow.Author.Needs.{needs}
+use Rattle.sizing.proofs.content.spread.Statement.{statement}
+use mathlib.Core.Path.{_≡_, ap, _∙_}
+use Prim.Native.Nat.{ℕ, _≤_, _<_}
+use native.Mathlib.Omega.{arith}
+use lib.ListN.{length, getD, replicate}
+use Rattle.lines.specs.Chains.{chained}
+use Rattle.spans.proofs.Raised.{working-after, chain-fits-as}
+use Rattle.sizing.proofs.Contents.{zeros-as, spread-made}
+use Rattle.sizing.proofs.content.spread.Tie as tie
+use Rattle.sizing.proofs.content.spread.Reads as reads
+use Rattle.sizing.proofs.content.spread.Lts as lts
+use Rattle.lines.proofs.pass_over.Reads as pass-over-reads
+use Rattle.spans.proofs.batched.Reads as batched-reads
+use Rattle.spans.proofs.longer.Reads as longer-reads
+
+longer-requires : tie.Need-longer-requires
+longer-requires c κs =
+    let s = c .before .before .before .before .before .before .before .before .before in
+    let few = s .pre .0 .few in
+    let all = s .pre .1 in
+    (s .pre .0, omega arith, λ k low high. s .pre .2 k low (omega arith))
+
+shared-slice-read-batched : tie.Need-shared-slice-read-batched
+shared-slice-read-batched c = search needs
+
+batched-requires : tie.Need-batched-requires
+batched-requires c κs =
+    let s = c .before .before .before .before .before .before .before .before .before .before .before .before .before .before .before .before .before .before .before .before .before .before in
+    let a = s .args in
+    let e = c .before .before .before .before .before .before .before .before .before .before .before .before .longer .ensures in
+    let f = s .pre .2 257 (omega arith) (omega arith) in
+    (working-after (s .pre .0) (search needs) (search needs) (search needs) (e .1) (e .2), chain-fits-as (a .items .now) (a .nexts .now) (getD (a .heads .now) 257 0) (search needs) (f .0), f .1)
+
+pass-over-requires : tie.Need-pass-over-requires
+pass-over-requires c κs = search needs
+
+same-length : tie.Need-same-length
+same-length c = search needs
+
+same-length-2 : tie.Need-same-length-2
+same-length-2 c = search needs
+
+same-length-3 : tie.Need-same-length-3
+same-length-3 c = search needs
+
+same-length-4 : tie.Need-same-length-4
+same-length-4 c = search needs
+
+returns : tie.Need-returns
+returns c =
+    let s = c .before .before .before .before .before .before .before .before .before .before .before .before .before .before .before .before .before .before .before .before .before .before .before .before .before .before .before .before .before .before .before .before .before in
+    let a = s .args in
+    let one = c .before .before .before .before .before .before .before .before .before .before .before .before .before .before .before .before .before .before .before .before .before .before .before .longer .ensures in
+    let two = c .before .before .before .before .before .before .before .before .before .before .batched .ensures in
+    let kept = c .before .before .before .before .before .before .before .before .before .before .before .before .before .before .before .before .before .before .before .before .before .before .lines .given in
+    let m = spread-made (a .constraint) (chained (a .items .now) (a .nexts .now) (getD (a .heads .now) 257 0)) _ _ _ _ (one .0) (two .0) (two .1) (c .before .pass-over .ensures) in
+    (m .0, m .1, zeros-as {m = length (c .before .before .before .before .before .before .before .before .before .before .before .before .before .before .before .before .before .before .before .before .before .before .before .longer .last .1 .1 .1 .1 .0)} {n = length (a .lines .now)} (two .2) (search needs))
+
+pub spread-spec : {M : Type 1} → statement M
+spread-spec =
+    tie.close
+    (tie.spec
+    longer-requires
+    shared-slice-read-batched
+    batched-requires
+    pass-over-requires
+    same-length
+    same-length-2
+    same-length-3
+    same-length-4
+    returns)

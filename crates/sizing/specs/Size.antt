@@ -1,0 +1,53 @@
+-- What the sizing asks of a board that has passed the checks, and its free space in the words of the rule. Assumes nothing.
+use mathlib.Core.Path.{_≡_}
+use Prim.Native.Nat.{ℕ, _+_, _≤_}
+use mathlib.Core.List.{List, map}
+use lib.ListN.{length}
+use Rattle.fill.specs.Rule.{mostTracks}
+use Rattle.kinds.specs.Kinds.{Row, trackOf, itemOf}
+use Rattle.kinds.specs.declared.space.Space.{Space}
+use Rattle.checks.specs.Sound.{Sound}
+use Rattle.laws.specs.Lists.{All}
+use Rattle.lines.specs.declared.line.Line.{Line}
+use Rattle.lines.specs.Rule.{FreeTold, none, dots, Board, Maximised, bases, expansion, expand, stretched, size}
+use Rattle.lines.specs.declared.measured.Measured.{Measured}
+use Rattle.flexible.specs.Flexes.{frOver}
+use Rattle.kinds.specs.declared.space.Constraint.{Constraint}
+use Rattle.kinds.specs.declared.space.Constraint.the-variants.{Definite, MinContent, MaxContent}
+use Rattle.sizing.specs.declared.free.Free.{Free}
+use Rattle.sizing.specs.declared.free.Free.the-variants as free
+use Rattle.sizing.specs.declared.Sizes.{Sizes}
+
+abbrev pub freeTold : Free → FreeTold
+freeTold free.None = none
+freeTold (free.Dots d) = dots d
+
+-- no fault, and no more tracks than a board has
+pub record Sizable (space : Space) (tracks items : List Row) : Type 0 where
+  pub few : length tracks ≤ mostTracks
+  pub sound : Sound space (map trackOf tracks) (map itemOf items)
+
+-- sizes and places as the rule's board has them
+abbrev pub boardOf : Sizes → List Row → Board
+boardOf sizes places = record { places = places; free = freeTold (sizes .free); rounds = sizes .rounds }
+
+abbrev pub sizeRows : Space → List Row → List Row → Board
+sizeRows space tracks items = size space (map trackOf tracks) (map itemOf items)
+
+-- a line and what step 5 may say of it
+abbrev pub maximised : List Line → ℕ → Maximised
+maximised lines rounds = record { lines = lines; rounds = rounds }
+
+-- bases that the dots of a space can still be added to
+abbrev pub BasesFit : List Line → Type 0
+BasesFit = All (λ (l : Line). l .base ≤ 4000000000)
+
+-- the sum of sizes leaves a free space that 32 bits can say
+abbrev pub FreeFits : Constraint → List Line → Type 0
+FreeFits (Definite n) ls = bases ls ≤ n + 2147483648
+FreeFits MinContent ls = Unit {0}
+FreeFits MaxContent ls = Unit {0}
+
+-- steps 6 and 7 with the batch of the items on an fr track
+abbrev pub finishedLines : Space → List Measured → List Line → List Line
+finishedLines s batch ls = stretched (s .stretch) (expansion s) (expand (frOver (expansion s) batch ls) ls)

@@ -1,0 +1,5 @@
+pub mod Parts
+pub mod Parted
+pub mod OneTrack
+pub mod Planned
+pub mod Raised

@@ -1,0 +1,99 @@
+-- One letter: the increases that were planned, and the lines that they raise. Assumes nothing.
+use mathlib.Core.Path.{_≡_, refl, sym, ap, ap₂, _∙_, subst}
+use mathlib.Core.Bool.{Bool, true, false, cond}
+use mathlib.Core.List.{List, [], _∷_, zipWith}
+use Prim.Native.Nat.{ℕ, zero, suc, _+_, _≤_, _<_}
+use native.Mathlib.Numerals.{add-one}
+use lib.ListN.{length, getD, replicate, length-map, length-replicate}
+use Rattle.laws.specs.Lists.{All, inTurn}
+use Rattle.kinds.specs.Kinds.{Row}
+use Rattle.kinds.specs.declared.space.Constraint.{Constraint}
+use Rattle.kinds.specs.declared.space.Constraint.the-variants.{Definite, MinContent, MaxContent}
+use Rattle.lines.specs.declared.line.Line.{Line}
+use Rattle.lines.specs.declared.measured.Measured.{Measured}
+use Rattle.lines.specs.Rule.{increasedBy, increases, raise, letters, batched}
+use Rattle.lines.specs.Rows.{lineOf, linesOf}
+use Rattle.lines.specs.Fits.{LinesFit, MeasuredFit}
+use Rattle.letters.specs.declared.letter.Letter.{Letter}
+use Rattle.letters.specs.Letters.{letterOf, most}
+use Rattle.letters.proofs.Keeps.{length-increases, increases-fit-rows, raise-fits}
+use native.Mathlib.Omega.{arith}
+use Rattle.lines.specs.Chains.{ChainFits}
+use Rattle.spans.specs.Work.{Working, letterAt, hasPlace, letterStep, letterSteps}
+
+module _ (letter : Letter) (c : Constraint) (batch : List Measured) (rows : List Row) (start planned : List ℕ)
+    (none : start ≡ replicate (length rows) 0) (told : planned ≡ inTurn (increasedBy (letterOf letter) c (linesOf rows)) batch start) where
+  planned-is : planned ≡ increases (letterOf letter) c batch (linesOf rows)
+  unfolding increases
+  planned-is =
+      told
+      ∙ ap (inTurn (increasedBy (letterOf letter) c (linesOf rows)) batch) (none ∙ ap (λ (n : ℕ). replicate n 0) (sym (length-map rows lineOf)))
+
+  pub length-planned : length planned ≡ length rows
+  length-planned = ap length planned-is ∙ length-increases (letterOf letter) c batch (linesOf rows) ∙ length-map rows lineOf
+
+  module _ (n : ℕ) (fits : LinesFit (linesOf rows)) (items : MeasuredFit n batch) where
+    -- what the letter's end asks
+    pub planned-fit : (i : ℕ) → i < length rows → letterOf letter .present (lineOf (getD rows i [])) + getD planned i 0 ≤ most
+    planned-fit i h = rw planned-is (increases-fit-rows letter c n batch rows fits items i h)
+
+    pub raised-is : (ls : List Line) → ls ≡ zipWith (letterOf letter .grown) (linesOf rows) planned
+        → (ls ≡ raise c batch (letterOf letter) (linesOf rows)) × LinesFit ls
+    unfolding raise
+    raised-is ls e =
+        let r : ls ≡ raise c batch (letterOf letter) (linesOf rows) = e ∙ ap (zipWith (letterOf letter .grown) (linesOf rows)) planned-is in
+        (r, subst LinesFit (sym r) (raise-fits letter c n batch (linesOf rows) fits items))
+
+-- ---- the letters by number
+
+module _ (k : ℕ) (c : Constraint) (batch : List Measured) (ls : List Line) where
+  -- a letter without a place changes nothing
+  pub step-left : {b : Bool} → b ≡ hasPlace k c → b ≡ false → ls ≡ letterStep k c batch ls
+  unfolding letterStep
+  step-left e f = rw (sym e ∙ f) refl
+
+  pub step-taken : {b : Bool} {letter : Letter} (out : List Line) → b ≡ hasPlace k c → b ≡ true → letter ≡ letterAt k
+      → out ≡ raise c batch (letterOf letter) ls → out ≡ letterStep k c batch ls
+  unfolding letterStep
+  step-taken out e f l r = rw (sym e ∙ f) (r ∙ ap (λ (m : Letter). raise c batch (letterOf m) ls) l)
+
+  -- one more
+  pub steps-more : (start out : List Line) → ls ≡ letterSteps k c batch start → out ≡ letterStep k c batch ls → out ≡ letterSteps (k + 1) c batch start
+  unfolding letterSteps
+  steps-more start out e r = rw (add-one k) (r ∙ ap (letterStep k c batch) e)
+
+-- all six are the letters of the batch
+steps-all : (c : Constraint) (batch : List Measured) (ls : List Line) → letterSteps 6 c batch ls ≡ inTurn (raise c batch) (letters c) ls
+unfolding letterSteps letterStep inTurn
+steps-all (Definite n) batch ls = refl
+steps-all MinContent batch ls = refl
+steps-all MaxContent batch ls = refl
+
+pub batch-of-steps : (c : Constraint) (batch : List Measured) (i : Measured) (is : List Measured) (ls out : List Line) → batch ≡ i ∷ is
+    → out ≡ letterSteps 6 c batch ls → out ≡ batched c batch ls
+unfolding batched
+batch-of-steps c batch i is ls out e r =
+    r ∙ steps-all c batch ls ∙ rw e refl
+
+-- no item, no change
+pub batch-of-none : (c : Constraint) (batch : List Measured) (ls : List Line) → batch ≡ [] → ls ≡ batched c batch ls
+unfolding batched
+batch-of-none c batch ls e = rw e refl
+
+-- ---- the working store between letters
+
+pub working-after : {lines lines′ : List Row} {increases increases′ gains gains′ rests rests′ : List ℕ} → Working lines increases gains rests
+    → length lines′ ≡ length lines → length gains′ ≡ length gains → length rests′ ≡ length rests → LinesFit (linesOf lines′) → increases′ ≡ replicate (length lines) 0
+    → Working lines′ increases′ gains′ rests′
+working-after w l g r f z =
+    let few = w .few in
+    record {
+      few = omega arith;
+      fit = f;
+      none = z ∙ ap (λ (n : ℕ). replicate n 0) (sym l);
+      gains-long = g ∙ w .gains-long ∙ sym l;
+      rests-long = r ∙ w .rests-long ∙ sym l;
+    }
+
+pub chain-fits-as : {m n : ℕ} (items : List Row) (nexts : List ℕ) (first : ℕ) → m ≡ n → ChainFits n items nexts first → ChainFits m items nexts first
+chain-fits-as items nexts first e f = record { long = f .long; rising = f .rising; fit = rw e (f .fit) }

@@ -1,0 +1,60 @@
+-- `batched` runs the letters of a batch that has items. Assumes nothing.
+use borrow.Author.Needs.{needs}
+use Rattle.spans.proofs.batch.batched.Statement.{statement}
+use mathlib.Core.Path.{_≡_}
+use native.Mathlib.Omega.{arith}
+use Prim.Native.Nat.{_≤_, _<_}
+use lib.ListN.{length}
+use Rattle.lines.specs.Rows.{linesOf}
+use Rattle.lines.specs.Chains.{chained}
+use Rattle.lines.proofs.Chains.{chained-end}
+use Rattle.spans.proofs.Raised.{batch-of-none, batch-of-steps}
+use Rattle.spans.proofs.batch.batched.Tie as tie
+use Rattle.spans.proofs.batch.batched.Reads as reads
+use Rattle.spans.proofs.batch.batched.Lts as lts
+use Rattle.spans.proofs.batch.raise_all.Reads as raise-all-reads
+
+returns : tie.Need-returns
+returns c =
+    let s = c .before .before .before .before .before in
+    let a = s .args in
+    let w = s .pre .0 in
+    let long = s .pre .1 .long in
+    let k : length (a .nexts .now) ≤ a .first = search needs in
+    (batch-of-none (a .constraint) (chained (a .items .now) (a .nexts .now) (a .first)) (linesOf (a .lines .now)) (chained-end (a .items .now) (a .nexts .now) (a .first) k), w .fit, w .none)
+
+raise-all-requires : tie.Need-raise-all-requires
+raise-all-requires c κs = search needs
+
+same-length : tie.Need-same-length
+same-length c = search needs
+
+same-length-2 : tie.Need-same-length-2
+same-length-2 c = search needs
+
+same-length-3 : tie.Need-same-length-3
+same-length-3 c = search needs
+
+same-length-4 : tie.Need-same-length-4
+same-length-4 c = search needs
+
+returns-2 : tie.Need-returns-2
+returns-2 c =
+    let s = c .before .before .before .before .before .before .before .before .before .before .before .before .before .before .before .before .before in
+    let a = s .args in
+    let e = c .before .before .before .before .before .before .before .raise-all .ensures in
+    let k : a .first < length (a .items .now) = search needs in
+    let q = s .pre .2 k in
+    (batch-of-steps (a .constraint) (chained (a .items .now) (a .nexts .now) (a .first)) (q .0) (q .1) (linesOf (a .lines .now)) _ (q .2) (e .0), e .1, e .2)
+
+pub batched-spec : {M : Type 1} → statement M
+batched-spec =
+    tie.close
+    (tie.spec
+    returns
+    raise-all-requires
+    same-length
+    same-length-2
+    same-length-3
+    same-length-4
+    returns-2)

@@ -1,0 +1,142 @@
+use borrow.Author.Needs.{needs}
+use Rattle.spans.proofs.batch.plan_item.Statement.{statement}
+use mathlib.Core.Path.{_≡_, sym, ap, _∙_}
+use Prim.Native.Nat.{_+_, _-_, _≤_}
+use native.Mathlib.Omega.{arith}
+use lib.ListN.{length, take, drop}
+use lib.Seq.{length-take-le}
+use Rattle.spans.proofs.Planned.{length-between, between-few, between-fits, extra-few, laid-over, gains-long}
+use Rattle.spans.proofs.batch.plan_item.Tie as tie
+use Rattle.spans.proofs.batch.plan_item.Reads as reads
+use Rattle.spans.proofs.batch.plan_item.Lts as lts
+use Rattle.letters.proofs.extra.Reads as extra-reads
+use Rattle.letters.proofs.lay_over.Reads as lay-over-reads
+use Rattle.letters.proofs.share_extra.Reads as share-extra-reads
+
+-- `plan_item` lays what one item gives over the increases. Assumes nothing.
+
+cast-a : tie.Need-cast-a
+cast-a c = search needs
+
+cast-n : tie.Need-cast-n
+cast-n c = search needs
+
+add-e : tie.Need-add-e
+add-e c = search needs
+
+mul-on : tie.Need-mul-on
+mul-on c = search needs
+
+sub-on : tie.Need-sub-on
+sub-on c = search needs
+
+part-on-start : tie.Need-part-on-start
+part-on-start c = search needs
+
+part-on-end : tie.Need-part-on-end
+part-on-end c = search needs
+
+extra-requires : tie.Need-extra-requires
+extra-requires c κs =
+    let a = c .before .before .before .before .before .before in
+    let i = a .args .item in
+    (between-few (i .start) (i .span) (a .args .lines .now) (a .pre .5 .within) (a .pre .0), between-fits (i .start) (i .span) (a .args .lines .now) (a .pre .4))
+
+slice-relend-prefix-share-extra : tie.Need-slice-relend-prefix-share-extra
+slice-relend-prefix-share-extra c = search needs
+
+slice-aggregate-share-extra : tie.Need-slice-aggregate-share-extra
+slice-aggregate-share-extra c =
+    let a = c .before .before .before .before .before .before .before .before in
+    sym (length-take-le (a .args .item .span) (a .args .gains .now) (omega (arith, a .pre .5 .within, a .pre .2)))
+
+slice-relend-prefix-share-extra-2 : tie.Need-slice-relend-prefix-share-extra-2
+slice-relend-prefix-share-extra-2 c = search needs
+
+slice-aggregate-share-extra-2 : tie.Need-slice-aggregate-share-extra-2
+slice-aggregate-share-extra-2 c =
+    let a = c .before .before .before .before .before .before .before .before .before in
+    sym (length-take-le (a .args .item .span) (a .args .rests .now) (omega (arith, a .pre .5 .within, a .pre .3)))
+
+share-extra-requires : tie.Need-share-extra-requires
+share-extra-requires c κs =
+    let a = c .before .before .before .before .before .before .before .before .before in
+    let i = a .args .item in
+    let on = length-between (i .start) (i .span) (a .args .lines .now) (a .pre .5 .within) in (
+      length-take-le (i .span) (a .args .gains .now) (omega (arith, a .pre .5 .within, a .pre .2)) ∙ sym on,
+      length-take-le (i .span) (a .args .rests .now) (omega (arith, a .pre .5 .within, a .pre .3)) ∙ sym on,
+      between-few (i .start) (i .span) (a .args .lines .now) (a .pre .5 .within) (a .pre .0),
+      extra-few (a .args .lines .now) i (a .args .letter) (a .args .constraint) _ _ (a .pre .5) (c .before .before .extra .ensures),
+    )
+
+slice-reshare-prefix-lay-over : tie.Need-slice-reshare-prefix-lay-over
+slice-reshare-prefix-lay-over c = search needs
+
+slice-aggregate-lay-over : tie.Need-slice-aggregate-lay-over
+slice-aggregate-lay-over c =
+    let a = c .before .before .before .before .before .before .before .before .before .before .before .before .before .before .before in
+    sym (gains-long (a .args .lines .now) (a .args .item) (a .args .letter) (a .args .constraint) _ _ (a .args .gains .now) (a .pre .5 .within) (c .before .before .before .before .before .share-extra .ensures))
+
+mul-lay-over : tie.Need-mul-lay-over
+mul-lay-over c = search needs
+
+sub-lay-over : tie.Need-sub-lay-over
+sub-lay-over c = search needs
+
+part-lay-over-start : tie.Need-part-lay-over-start
+part-lay-over-start c = search needs
+
+part-lay-over-end : tie.Need-part-lay-over-end
+part-lay-over-end c = search needs
+
+lay-over-requires : tie.Need-lay-over-requires
+lay-over-requires c κs =
+    let a = c .before .before .before .before .before .before .before .before .before .before .before .before .before .before .before .before in
+    let i = a .args .item in
+    gains-long (a .args .lines .now) i (a .args .letter) (a .args .constraint) _ _ (a .args .gains .now) (a .pre .5 .within) (c .before .before .before .before .before .before .share-extra .ensures)
+    ∙ sym (length-between (i .start) (i .span) (a .args .increases .now) (omega (arith, a .pre .5 .within, a .pre .1)))
+
+same-length : tie.Need-same-length
+same-length c = search needs
+
+same-length-2 : tie.Need-same-length-2
+same-length-2 c = search needs
+
+same-length-3 : tie.Need-same-length-3
+same-length-3 c = search needs
+
+returns : tie.Need-returns
+returns c =
+    let a = c .before .before .before .before .before .before .before .before .before .before .before .before .before .before .before .before .before .before .before in
+    let i = a .args .item in
+    laid-over (a .args .lines .now) i (a .args .letter) (a .args .constraint) (a .args .gains .now) (a .args .increases .now) _ _ _ (a .pre .5 .within)
+    (c .before .before .before .before .before .before .before .before .before .before .before .before .extra .ensures) (c .before .before .before .before .before .before .before .before .before .share-extra .ensures) (c .before .before .lay-over .ensures)
+
+pub plan-item-spec : {M : Type 1} → statement M
+plan-item-spec =
+    tie.close
+    (tie.spec
+    cast-a
+    cast-n
+    add-e
+    mul-on
+    sub-on
+    part-on-start
+    part-on-end
+    extra-requires
+    slice-relend-prefix-share-extra
+    slice-aggregate-share-extra
+    slice-relend-prefix-share-extra-2
+    slice-aggregate-share-extra-2
+    share-extra-requires
+    slice-reshare-prefix-lay-over
+    slice-aggregate-lay-over
+    mul-lay-over
+    sub-lay-over
+    part-lay-over-start
+    part-lay-over-end
+    lay-over-requires
+    same-length
+    same-length-2
+    same-length-3
+    returns)

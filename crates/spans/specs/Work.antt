@@ -1,0 +1,54 @@
+-- What the steps on spans ask of the working store, and one batch as the code goes about it. Assumes nothing.
+use mathlib.Core.Path.{_≡_}
+use Prim.Native.Nat.{ℕ, zero, suc, _≤_}
+use mathlib.Core.Bool.{Bool, true, false, cond}
+use mathlib.Core.List.{List}
+use lib.Dec.{eqb}
+use lib.ListN.{length, replicate}
+use Rattle.fill.specs.Rule.{mostTracks}
+use Rattle.kinds.specs.Kinds.{Row}
+use Rattle.kinds.specs.declared.space.Constraint.{Constraint}
+use Rattle.kinds.specs.declared.space.Constraint.the-variants.{Definite, MinContent, MaxContent}
+use Rattle.lines.specs.declared.line.Line.{Line}
+use Rattle.lines.specs.declared.measured.Measured.{Measured}
+use Rattle.lines.specs.Rule.{raise}
+use Rattle.lines.specs.Rows.{linesOf}
+use Rattle.lines.specs.Fits.{LinesFit}
+use Rattle.letters.specs.declared.letter.Letter.{Letter}
+use Rattle.letters.specs.declared.letter.Letter.the-variants.{A, B, C, D, E, F}
+use Rattle.letters.specs.Letters.{letterOf}
+
+-- the lines fit, no increase is planned, and there is scratch beside each line
+pub record Working (lines : List Row) (increases gains rests : List ℕ) : Type 0 where
+  pub few : length lines ≤ mostTracks
+  pub fit : LinesFit (linesOf lines)
+  pub none : increases ≡ replicate (length lines) 0
+  pub gains-long : length gains ≡ length lines
+  pub rests-long : length rests ≡ length lines
+
+-- ---- The letters by number
+
+abbrev pub letterAt : ℕ → Letter
+letterAt k =
+    cond (eqb k 0) A
+    (cond (eqb k 1) B
+    (cond (eqb k 2) C
+    (cond (eqb k 3) D
+    (cond (eqb k 4) E F))))
+
+abbrev pub isMaxContent : Constraint → Bool
+isMaxContent (Definite n) = false
+isMaxContent MinContent = false
+isMaxContent MaxContent = true
+
+-- (c) has a place under max-content only
+abbrev pub hasPlace : ℕ → Constraint → Bool
+hasPlace k c = cond (eqb k 2) (isMaxContent c) true
+
+unfoldable pub letterStep : ℕ → Constraint → List Measured → List Line → List Line
+letterStep k c batch ls = cond (hasPlace k c) (raise c batch (letterOf (letterAt k)) ls) ls
+
+-- the first n letters, one after another
+unfoldable pub letterSteps : ℕ → Constraint → List Measured → List Line → List Line
+letterSteps zero c batch ls = ls
+letterSteps (suc n) c batch ls = letterStep n c batch (letterSteps n c batch ls)

@@ -1,13 +1,31 @@
--- The build paper's marked examples, W1 to W6 so far: one table, and one claim that the checker computes.
--- Assumes nothing: each row is held against the published rule.
+-- The build paper's marked examples, W1 to W12: one table, and one claim that the checker computes. Assumes nothing: each row
+-- is held against the published rules of the fill, of the sizing, and of the board as called with bytes.
 use mathlib.Core.Path.{_≡_, refl}
 use Prim.Native.Nat.{ℕ}
 use mathlib.Core.Bool.{Bool, true, false, _&&_}
-use mathlib.Core.List.{List, [], _∷_}
+use mathlib.Core.List.{List, [], _∷_, _++_, flatMap, zipWith}
 use lib.Dec.{eqb}
+use lib.IntN.{ℤ, pos, negsuc}
 use Rattle.laws.specs.Marks.{number}
 use Rattle.laws.specs.Runs.{runs}
+use Rattle.laws.specs.Sums.{sum}
+use Rattle.laws.specs.Lists.{among, upFrom, keep, some, every, changeAt, inTurn, larger, largerFrom}
 use Rattle.fill.specs.Rule.{Room, upTo, noLimit, Track, gainsOf, opens, leastRoom, oddTakers, handOut, Fill, round, more, fill}
+use Rattle.sheet.specs.Rule.{isIn, rowAt, rowsAt, recordSize, taggedFault, rowFault, recordsFault, sheetFault, sheetAt}
+use Rattle.checks.specs.Rule.{lowest, firstOf, recordFault}
+use Rattle.board.specs.Rule.{BoardTold, BoardOutcome, boardCall}
+use Rattle.kinds.specs.Kinds as kinds
+use Rattle.kinds.specs.declared.amount.Amount.the-variants.{Absent, Given}
+use Rattle.kinds.specs.declared.space.Constraint.the-variants.{Definite}
+use Rattle.kinds.specs.declared.space.Space.{Space}
+use Rattle.kinds.specs.declared.track.Minimum.the-variants as minimum
+use Rattle.kinds.specs.declared.track.Maximum.the-variants as maximum
+use Rattle.kinds.specs.declared.track.Track as sheet
+use Rattle.kinds.specs.declared.item.Item.{Item}
+use Rattle.lines.specs.Fr.{frNow, search}
+use Rattle.lines.specs.Rule.{FreeTold, none, dots, Board, bases, measuredItems, start, singles, shares, gainsBy, increases, raise, batched, longer, lastBatch, missing, content, maximise, searchOver, basesFr, contentFr, frFor, expand, stretched, finish, size}
+
+-- ---- Rows of the fill
 
 -- an affected track with this room, and one that is not affected
 abbrev pub track : Room → Track
@@ -16,9 +34,29 @@ track room = record { affected = true; room = room; gain = 0 }
 abbrev pub idle : Room → Track
 idle room = record { affected = false; room = room; gain = 0 }
 
--- A row: the dots and the tracks, then the gains, the leftover and the rounds that the paper marks.
+-- ---- Rows of the sizing
+
+-- definite 100 with inner size 100
+abbrev pub hundred : Bool → Space
+hundred stretch = kinds.space (Definite 100) (Given 100) stretch
+
+-- an fr track with this base, its factor in thousandths
+abbrev pub frTrack : ℕ → ℕ → sheet.Track
+frTrack base factor = kinds.track (minimum.Fixed base) (maximum.Fr factor)
+
+abbrev pub autoTrack : sheet.Track
+autoTrack = kinds.track minimum.Auto maximum.Auto
+
+-- across both of two tracks
+abbrev pub across : ℕ → ℕ → ℕ → Item
+across a b c = kinds.item 0 2 (kinds.contribution (Given a) ∷ kinds.contribution (Given b) ∷ kinds.contribution (Given c) ∷ [])
+
+-- A row: a fill's dots and tracks, then the gains, the leftover and the rounds that the paper marks; or a board, then its
+-- bases and its limits, the free space and the rounds; or a sheet's bytes, then the same.
 pub data Example : Type 0 where
   filling : (dots : ℕ) (tracks : List Track) (gains : List ℕ) (left rounds : ℕ) → Example
+  sizing : (space : Space) (tracks : List sheet.Track) (items : List Item) (places : List (List ℕ)) (free : ℤ) (rounds : ℕ) → Example
+  board : (bytes : List ℕ) (places : List (List ℕ)) (free : ℤ) (rounds : ℕ) → Example
 
 abbrev pub w1 : Example
 w1 = filling 7 (track (upTo 10) ∷ track (upTo 10) ∷ track (upTo 10) ∷ []) (3 ∷ 2 ∷ 2 ∷ []) 0 2
@@ -38,8 +76,35 @@ w5 = filling 5 (idle (upTo 4) ∷ idle noLimit ∷ []) (0 ∷ 0 ∷ []) 5 0
 abbrev pub w6 : Example
 w6 = filling 3 (track (upTo 0) ∷ track (upTo 4) ∷ []) (0 ∷ 3 ∷ []) 0 1
 
+abbrev pub w7 : Example
+w7 = sizing (hundred false) (frTrack 0 1000 ∷ frTrack 0 2000 ∷ []) [] ((33 ∷ 0 ∷ []) ∷ (66 ∷ 0 ∷ []) ∷ []) (pos 1) 0
+
+abbrev pub w8 : Example
+w8 = sizing (hundred false) (frTrack 60 1000 ∷ frTrack 0 1000 ∷ []) [] ((60 ∷ 60 ∷ []) ∷ (40 ∷ 0 ∷ []) ∷ []) (pos 0) 0
+
+abbrev pub w9 : Example
+w9 = sizing (hundred false) (frTrack 0 500 ∷ []) [] ((50 ∷ 0 ∷ []) ∷ []) (pos 50) 0
+
+abbrev pub w10 : Example
+w10 = sizing (hundred false) (autoTrack ∷ autoTrack ∷ []) (across 11 11 20 ∷ []) ((11 ∷ 11 ∷ []) ∷ (9 ∷ 9 ∷ []) ∷ []) (pos 80) 2
+
+abbrev pub w11 : Example
+w11 = sizing (hundred true) (autoTrack ∷ autoTrack ∷ []) (across 11 11 20 ∷ []) ((51 ∷ 11 ∷ []) ∷ (49 ∷ 9 ∷ []) ∷ []) (pos 0) 2
+
+-- the 46 bytes: the space, a track whose minimum is auto and whose maximum is fixed at 0, and an item of 30, 30, 30
+abbrev pub w12 : Example
+w12 =
+    board
+    (1 ∷ 0 ∷ 1 ∷ 100 ∷ 0 ∷ 0 ∷ 0 ∷ 1 ∷ 100 ∷ 0 ∷ 0 ∷ 0 ∷ 0 ∷ 1 ∷ 0 ∷ 2 ∷ 0 ∷ 0 ∷ 0 ∷ 0 ∷ 1 ∷ 0 ∷ 0 ∷ 0 ∷ 0
+    ∷ 1 ∷ 0 ∷ 0 ∷ 0 ∷ 1 ∷ 0 ∷ 1 ∷ 30 ∷ 0 ∷ 0 ∷ 0 ∷ 1 ∷ 30 ∷ 0 ∷ 0 ∷ 0 ∷ 1 ∷ 30 ∷ 0 ∷ 0 ∷ 0 ∷ [])
+    ((30 ∷ 30 ∷ []) ∷ [])
+    (pos 70)
+    0
+
 abbrev pub table : List Example
-table = w1 ∷ w2 ∷ w3 ∷ w4 ∷ w5 ∷ w6 ∷ []
+table = w1 ∷ w2 ∷ w3 ∷ w4 ∷ w5 ∷ w6 ∷ w7 ∷ w8 ∷ w9 ∷ w10 ∷ w11 ∷ w12 ∷ []
+
+-- ---- Whether a row holds
 
 abbrev pub sameNumbers : List ℕ → List ℕ → Bool
 sameNumbers [] [] = true
@@ -47,15 +112,47 @@ sameNumbers [] (y ∷ ys) = false
 sameNumbers (x ∷ xs) [] = false
 sameNumbers (x ∷ xs) (y ∷ ys) = eqb x y && sameNumbers xs ys
 
+abbrev pub sameRows : List (List ℕ) → List (List ℕ) → Bool
+sameRows [] [] = true
+sameRows [] (y ∷ ys) = false
+sameRows (x ∷ xs) [] = false
+sameRows (x ∷ xs) (y ∷ ys) = sameNumbers x y && sameRows xs ys
+
+abbrev pub sameInteger : ℤ → ℤ → Bool
+sameInteger (pos a) (pos b) = eqb a b
+sameInteger (pos a) (negsuc b) = false
+sameInteger (negsuc a) (pos b) = false
+sameInteger (negsuc a) (negsuc b) = eqb a b
+
+abbrev pub sameFree : FreeTold → ℤ → Bool
+sameFree none d = false
+sameFree (dots a) d = sameInteger a d
+
 abbrev pub sameFill : Fill → List ℕ → ℕ → ℕ → Bool
 sameFill f gains left rounds = sameNumbers (gainsOf (f .tracks)) gains && eqb (f .left) left && eqb (f .rounds) rounds
 
+abbrev pub sameBoard : Board → List (List ℕ) → ℤ → ℕ → Bool
+sameBoard b places free rounds = sameRows (b .places) places && sameFree (b .free) free && eqb (b .rounds) rounds
+
+-- what the call leaves, where one place more than the tracks is lent: that one keeps what it holds
+abbrev pub lent : List (List ℕ)
+lent = (7 ∷ 8 ∷ []) ∷ (5 ∷ 6 ∷ []) ∷ []
+
+abbrev pub sameTold : BoardTold → ℤ → ℕ → Bool
+sameTold (BoardTold.board tracks f n) free rounds = eqb tracks 1 && sameFree f free && eqb n rounds
+sameTold (BoardTold.refused number place) free rounds = false
+
+abbrev pub sameOutcome : BoardOutcome → List (List ℕ) → ℤ → ℕ → Bool
+sameOutcome o places free rounds = sameTold (o .told) free rounds && sameRows (o .places) (places ++ ((5 ∷ 6 ∷ []) ∷ []))
+
 abbrev pub holds : Example → Bool
-holds (filling dots tracks gains left rounds) = sameFill (fill dots tracks) gains left rounds
+holds (filling n tracks gains left rounds) = sameFill (fill n tracks) gains left rounds
+holds (sizing space tracks items places free rounds) = sameBoard (size space tracks items) places free rounds
+holds (board bytes places free rounds) = sameOutcome (boardCall bytes lent) places free rounds
 
 -- every row holds
 unfoldable pub allHold : List Example → Bool
-unfolding number runs gainsOf opens leastRoom oddTakers handOut round more fill
+unfolding number runs gainsOf opens leastRoom oddTakers handOut round more fill sum among upFrom keep some every changeAt inTurn larger largerFrom zipWith flatMap frNow search bases measuredItems start singles shares gainsBy increases raise batched longer lastBatch missing content maximise searchOver basesFr contentFr frFor expand stretched finish size isIn rowAt rowsAt recordSize taggedFault rowFault recordsFault sheetFault sheetAt lowest firstOf recordFault boardCall
 allHold [] = true
 allHold (e ∷ es) = holds e && allHold es
 

@@ -40,7 +40,7 @@ unfolding inTurn upFrom
 up-same f g k zero s h = refl
 up-same {S} f g k (suc n) s h =
     ap (λ (t : S). inTurn f (upFrom (k + 1) n) t) (ap (λ (q : S → S). q s) (h k (omega arith) (omega arith)))
-        ∙ up-same f g (k + 1) n (g k s) (λ j a b. h j (omega arith) (omega arith))
+    ∙ up-same f g (k + 1) n (g k s) (λ j a b. h j (omega arith) (omega arith))
 
 module _ (c : Constraint) (ts : List Track) (rows : List Row) (heads nexts : List ℕ) (few : length ts ≤ 256) (fits : All (ItemFits (length ts)) (map itemOf rows))
     (all : length heads ≡ 258) (g : Gathered ts rows heads nexts) where
@@ -56,8 +56,8 @@ module _ (c : Constraint) (ts : List Track) (rows : List Row) (heads nexts : Lis
   unfolding content longer lastBatch
   content-made n ls out e l o =
       o
-          ∙ ap (λ (is : List Measured). missing (batched c is (inTurn (λ (k : ℕ). batched c (chained rows nexts (getD heads k 0))) (upFrom 2 (n - 1)) ls))) (gathered-last ts rows heads nexts few fits all g)
-          ∙ ap (λ (ms : List Line). missing (batched c (keep (onFr ts) items) ms))
-          (ap₂ (λ (m : ℕ) (ms : List Line). inTurn (λ (k : ℕ). batched c (chained rows nexts (getD heads k 0))) (upFrom 2 (m - 1)) ms) e l
-          ∙ up-same (λ (k : ℕ). batched c (chained rows nexts (getD heads k 0))) (λ (k : ℕ). batched c (keep (inSpan ts k) items)) 2 (length ts - 1) (singles c (keep (inOneTrack ts) items) (start ts))
-          (λ j a b. ap (batched c) (gathered-span ts rows heads nexts few fits all g j (omega arith) (omega arith))))
+      ∙ ap (λ (is : List Measured). missing (batched c is (inTurn (λ (k : ℕ). batched c (chained rows nexts (getD heads k 0))) (upFrom 2 (n - 1)) ls))) (gathered-last ts rows heads nexts few fits all g)
+      ∙ ap (λ (ms : List Line). missing (batched c (keep (onFr ts) items) ms))
+      (ap₂ (λ (m : ℕ) (ms : List Line). inTurn (λ (k : ℕ). batched c (chained rows nexts (getD heads k 0))) (upFrom 2 (m - 1)) ms) e l
+      ∙ up-same (λ (k : ℕ). batched c (chained rows nexts (getD heads k 0))) (λ (k : ℕ). batched c (keep (inSpan ts k) items)) 2 (length ts - 1) (singles c (keep (inOneTrack ts) items) (start ts))
+      (λ j a b. ap (batched c) (gathered-span ts rows heads nexts few fits all g j (omega arith) (omega arith))))

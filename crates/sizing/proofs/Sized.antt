@@ -44,4 +44,4 @@ unfolding size
 sized s ts is ls out batch places free rounds e m b f p =
     let done : finishedLines s batch out ≡ finish s ts (measuredItems ts is) out = ap (λ (k : List Measured). finishedLines s k out) b ∙ finished-is s ts (measuredItems ts is) out in
     ap₂ (told rounds) (p ∙ ap (map placeOf) done) (f ∙ ap (freeOf (expansion s)) done)
-        ∙ ap (boardAfter s ts (measuredItems ts is)) (m ∙ ap (maximise (s .constraint)) e)
+    ∙ ap (boardAfter s ts (measuredItems ts is)) (m ∙ ap (maximise (s .constraint)) e)

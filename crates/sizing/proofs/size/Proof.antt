@@ -70,16 +70,17 @@ size-with-requires : tie.Need-size-with-requires
 size-with-requires c κs =
     let s = c .before .before .before .before .before .before .before .before in
     let n = length (s .args .tracks .now) in
-    let few = s .pre .0 .few in
-    (s .pre .0,
-    length-replicate {A = ℕ} 258 0,
-    length-front {A = ℕ} (length (s .args .items .now)) 1024 0 (s .pre .1),
-    length-front {A = List ℕ} n 256 (replicate 8 0) few,
-    take-replicate {A = ℕ} n 256 0 few,
-    length-front {A = ℕ} n 256 0 few,
-    length-front {A = ℕ} n 256 0 few,
-    length-front n 256 false few,
-    s .pre .2)
+    let few = s .pre .0 .few in (
+      s .pre .0,
+      length-replicate {A = ℕ} 258 0,
+      length-front {A = ℕ} (length (s .args .items .now)) 1024 0 (s .pre .1),
+      length-front {A = List ℕ} n 256 (replicate 8 0) few,
+      take-replicate {A = ℕ} n 256 0 few,
+      length-front {A = ℕ} n 256 0 few,
+      length-front {A = ℕ} n 256 0 few,
+      length-front n 256 false few,
+      s .pre .2,
+    )
 
 same-length : tie.Need-same-length
 same-length c = search needs

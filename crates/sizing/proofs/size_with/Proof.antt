@@ -69,15 +69,16 @@ finish-requires c κs =
     let few = z .few in
     let rows = s .pre .3 in
     let items = z .sound .items in
-    let all : length ts ≤ 256 = omega arith in
-    (z .sound .space,
-    omega arith,
-    maximised-fit (a .space .constraint) ts (measuredItems ts (map itemOf (a .items .now))) (linesOf ls) (linesOf out) _ (e .0) (e .1) (m .0),
-    chain-fits-as (a .items .now) _ _ (same2 ∙ same ∙ rows ∙ sym long) (gathered-fits ts (a .items .now) _ _ all items (search needs) (e .2) 257 (omega arith) (omega arith)),
-    zeros-as {m = length ls} {n = length out} (m .1) (sym same2),
-    search needs,
-    search needs,
-    search needs)
+    let all : length ts ≤ 256 = omega arith in (
+      z .sound .space,
+      omega arith,
+      maximised-fit (a .space .constraint) ts (measuredItems ts (map itemOf (a .items .now))) (linesOf ls) (linesOf out) _ (e .0) (e .1) (m .0),
+      chain-fits-as (a .items .now) _ _ (same2 ∙ same ∙ rows ∙ sym long) (gathered-fits ts (a .items .now) _ _ all items (search needs) (e .2) 257 (omega arith) (omega arith)),
+      zeros-as {m = length ls} {n = length out} (m .1) (sym same2),
+      search needs,
+      search needs,
+      search needs,
+    )
 
 same-length : tie.Need-same-length
 same-length c = search needs

@@ -32,12 +32,14 @@ spread-requires c κs =
     let ls = c .before .before .before .before .before .before .before .before .before .before .before .prepare .last .1 .1 .1 .1 .1 .0 in
     let kept = c .before .before .before .before .before .before .lines .given in
     let held = c .before .before .before .before .before .before .before .before .before .before .heads .given in
-    let same : length ls ≡ length (a .tracks .now) = search needs in
-    (record { few = omega (arith, s .pre .0); fit = p .1; none = zeros-as {m = length (a .tracks .now)} {n = length ls} (s .pre .6) (sym same); gains-long = s .pre .7 ∙ sym same; rests-long = s .pre .8 ∙ sym same },
-    search needs,
-    λ k low high.
-    (chain-fits-as (a .items .now) _ _ (same ∙ back) (gathered-fits ts (a .items .now) _ _ few items (search needs) (p .2) k low high),
-    gathered-whole ts (a .items .now) _ _ few items (search needs) (p .2) k low high))
+    let same : length ls ≡ length (a .tracks .now) = search needs in (
+      record { few = omega (arith, s .pre .0); fit = p .1; none = zeros-as {m = length (a .tracks .now)} {n = length ls} (s .pre .6) (sym same); gains-long = s .pre .7 ∙ sym same; rests-long = s .pre .8 ∙ sym same },
+      search needs,
+      λ k low high. (
+        chain-fits-as (a .items .now) _ _ (same ∙ back) (gathered-fits ts (a .items .now) _ _ few items (search needs) (p .2) k low high),
+        gathered-whole ts (a .items .now) _ _ few items (search needs) (p .2) k low high,
+      ),
+    )
 
 same-length : tie.Need-same-length
 same-length c = search needs

@@ -1,0 +1,2 @@
+pub mod SignedDots
+pub mod Told

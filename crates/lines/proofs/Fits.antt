@@ -1,11 +1,11 @@
 -- Lines that fit still fit after steps 1, 2 and 4, and there are as many of them. Assumes nothing.
-use mathlib.Core.Path.{_≡_, refl, ap, _∙_, sym, subst}
-use mathlib.Core.Bool.{Bool, true, false, cond}
+use mathlib.Core.Path.{_≡_, refl, ap, _∙_}
+use mathlib.Core.Bool.{Bool, false}
 use mathlib.Core.List.{List, [], _∷_, map}
-use Prim.Native.Nat.{ℕ, zero, suc, _+_, _≤_, _<_, min, max, zero-le}
-use native.Mathlib.Nat.{le-trans, le-refl}
+use Prim.Native.Nat.{ℕ, zero, suc, _≤_, min, zero-le}
+use native.Mathlib.Nat.{le-refl}
 use native.Mathlib.Omega.{arith}
-use lib.ListN.{length, take, drop}
+use lib.ListN.{length}
 use Rattle.laws.specs.Lists.{All, inTurn, changeAt}
 use Rattle.kinds.specs.Kinds.{minimumNumber, maximumNumber}
 use Rattle.kinds.specs.declared.space.Constraint.{Constraint}
@@ -21,7 +21,7 @@ use Rattle.lines.specs.declared.limit.Limit.{Limit}
 use Rattle.lines.specs.declared.limit.Limit.the-variants.{None, UpTo}
 use Rattle.lines.specs.declared.line.Line.{Line}
 use Rattle.lines.specs.declared.measured.Measured.{Measured}
-use Rattle.lines.specs.Rule.{line, withLimit, cut, orBase, limitSize, startBase, startLimit, atLeast, settled, startLine, start, maxima, limited, forAuto, baseAsked, limitWith, limitAsked, withItem, withItemAt, singles, missing}
+use Rattle.lines.specs.Rule.{line, withLimit, cut, orBase, limitSize, startBase, startLimit, atLeast, settled, start, maxima, limited, forAuto, baseAsked, limitWith, limitAsked, withItem, withItemAt, singles, missing}
 use Rattle.lines.specs.Rows.{limitNumber}
 use Rattle.lines.specs.Fits.{LineFits, LinesFit, MeasuredFits, MeasuredFit}
 

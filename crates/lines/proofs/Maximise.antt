@@ -1,27 +1,26 @@
 -- Step 5 keeps lines that fit, where no limit is missing: no base passes its limit. Assumes nothing.
-use mathlib.Core.Path.{_≡_, refl, sym, ap, _∙_}
-use mathlib.Core.Bool.{Bool, true, false, cond}
+use mathlib.Core.Path.{_≡_, refl}
+use mathlib.Core.Bool.{false}
 use mathlib.Core.List.{List, [], _∷_, map, zipWith}
-use Prim.Native.Nat.{ℕ, zero, suc, _+_, _-_, _≤_, min}
-use native.Mathlib.Nat.{le-refl}
+use Prim.Native.Nat.{ℕ, suc, _+_, _≤_}
 use native.Mathlib.Omega.{arith}
-use lib.ListN.{length, getD, length-map}
+use lib.ListN.{getD}
 use Rattle.laws.specs.Lists.{All}
 use Rattle.laws.specs.Tests.{never}
-use Rattle.fill.specs.Rule.{Room, upTo, noLimit, gainsOf, fill}
+use Rattle.fill.specs.Rule.{fill}
 use Rattle.fill.specs.Rule as fill
 use Rattle.fill.specs.Rests.{capIn, caps}
 use Rattle.fill.proofs.Tied.{Fresh}
-use Rattle.fill.proofs.Fresh.{gain-le-cap, length-gains}
+use Rattle.fill.proofs.Fresh.{gain-le-cap}
 use Rattle.kinds.specs.declared.space.Constraint.{Constraint}
 use Rattle.kinds.specs.declared.space.Constraint.the-variants.{Definite, MinContent, MaxContent}
 use Rattle.checks.specs.Rule.{mostSize}
 use Rattle.lines.specs.declared.limit.Limit.{Limit}
 use Rattle.lines.specs.declared.limit.Limit.the-variants.{None, UpTo}
 use Rattle.lines.specs.declared.line.Line.{Line}
-use Rattle.lines.specs.Rule.{isNone, cut, cutLimit, roomTo, limitSize, argument, baseRoom, withBase, grownBase, inFill, maximiseTrack, filledLines, missing, maximise}
+use Rattle.lines.specs.Rule.{isNone, cutLimit, roomTo, limitSize, argument, withBase, grownBase, maximiseTrack, filledLines, missing, maximise}
 use Rattle.lines.specs.Rows.{limitNumber}
-use Rattle.lines.specs.Fits.{LineFits, LinesFit}
+use Rattle.lines.specs.Fits.{LinesFit}
 use Rattle.lines.proofs.Fits.{limit-size-le}
 
 -- no limit is missing

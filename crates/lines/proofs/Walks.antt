@@ -1,11 +1,10 @@
 -- Walks that store rows, where what counts is what each row says. `see` is what a row says. Assumes nothing.
-use mathlib.Core.Path.{_≡_, refl, sym, ap, _∙_}
-use mathlib.Core.List.{List, [], _∷_, _++_, map, append-nil}
+use mathlib.Core.Path.{_≡_, sym, ap}
+use mathlib.Core.List.{List, [], _∷_, _++_, map}
 use Prim.Native.Nat.{ℕ, _+_, _≤_, _<_}
-use lib.ListN.{length, getD, take, drop, set, length-map, List·getD-map, drop-of-length-le}
-use lib.Seq.{take-all}
+use lib.ListN.{length, getD, take, drop, set, length-map, List·getD-map}
 use Rattle.laws.specs.Lists.{map-set}
-use Rattle.laws.specs.Walk.{next, store-step, store-end}
+use Rattle.laws.specs.Walk.{store-step, store-end}
 
 module _ {A B : Type 0} (see : A → B) (rows : List A) (i : ℕ) where
   -- a turn that stores the row v: as `store-step`, of what the rows say

@@ -1,6 +1,6 @@
 -- The fr search, in exact fractions: nothing is rounded here. It assumes nothing and it computes.
 use Prim.Native.Nat.{ℕ, zero, suc, _-_, _*_, max}
-use mathlib.Core.Bool.{Bool, true, false, cond, not, _&&_, _||_}
+use mathlib.Core.Bool.{Bool, cond, not, _&&_, _||_}
 use mathlib.Core.List.{List, map}
 use lib.Dec.{ltb}
 use Rattle.laws.specs.Lists.{some}

@@ -15,7 +15,7 @@ use Rattle.sheet.specs.Rule.{isIn, rowAt, rowsAt, recordSize, taggedFault, rowF
 use Rattle.checks.specs.Rule.{lowest, firstOf, recordFault}
 use Rattle.board.specs.Rule.{BoardTold, BoardOutcome, boardCall}
 use Rattle.kinds.specs.Kinds as kinds
-use Rattle.kinds.specs.declared.amount.Amount.the-variants.{Absent, Given}
+use Rattle.kinds.specs.declared.amount.Amount.the-variants.{Given}
 use Rattle.kinds.specs.declared.space.Constraint.the-variants.{Definite}
 use Rattle.kinds.specs.declared.space.Space.{Space}
 use Rattle.kinds.specs.declared.track.Minimum.the-variants as minimum

@@ -1,9 +1,8 @@
 -- How far the sum of the bases can go: what it is before step 6, and what a fill adds. Assumes nothing.
-use mathlib.Core.Path.{_≡_, refl, ap, sym, _∙_}
+use mathlib.Core.Path.{refl}
 use mathlib.Core.Bool.{Bool, true, false}
 use mathlib.Core.List.{List, [], _∷_, map, zipWith}
-use Prim.Native.Nat.{ℕ, zero, suc, _+_, _-_, _*_, _≤_, zero-le}
-use native.Mathlib.Nat.{le-refl, le-trans}
+use Prim.Native.Nat.{ℕ, _+_, _-_, _*_, _≤_, zero-le}
 use native.Mathlib.Omega.{arith}
 use lib.ListN.{length}
 use Rattle.laws.specs.Lists.{All}
@@ -13,8 +12,8 @@ use Rattle.fill.proofs.Tied.{Fresh}
 use Rattle.fill.proofs.Fresh.{sum-gains-add-left}
 use Rattle.lines.specs.declared.line.Line.{Line}
 use Rattle.kinds.specs.declared.space.Constraint.the-variants.{Definite}
-use Rattle.lines.specs.Rule.{bases, grownBase, filledLines, stretchTrack, stretched}
-use Rattle.lines.specs.Fits.{LineFits, LinesFit}
+use Rattle.lines.specs.Rule.{bases, grownBase, stretchTrack, stretched}
+use Rattle.lines.specs.Fits.{LinesFit}
 
 -- lines that fit: 65,535 each at most
 pub bases-le : (ls : List Line) → LinesFit ls → bases ls ≤ length ls * 65535

@@ -3,7 +3,7 @@ use mathlib.Core.Path.{_≡_, refl, sym, ap, ap₂, _∙_, subst}
 use mathlib.Core.List.{List, map}
 use Prim.Native.Nat.{ℕ, zero, suc, _+_, _-_, _≤_, _<_}
 use native.Mathlib.Omega.{arith}
-use lib.ListN.{length, getD, replicate, length-map}
+use lib.ListN.{length, getD, replicate}
 use Rattle.laws.specs.Lists.{All, keep, inTurn, upFrom}
 use Rattle.kinds.specs.Kinds.{Row, itemOf}
 use Rattle.kinds.specs.declared.space.Constraint.{Constraint}

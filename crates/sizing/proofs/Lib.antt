@@ -1,9 +1,14 @@
-pub mod Difference
+-- The laws of the sizing. A function's own proof stands in the folder of its name.
+
+-- the store, the places, the free space as 32 bits say it
+pub mod Store
 pub mod Places
+pub mod Difference
+-- steps 5 and 7, how far the bases go, and that every free space fits
 pub mod Bases
 pub mod Filled
 pub mod FreeFits
-pub mod Finished
+-- steps 1 to 4, steps 6 and 7, and the whole
 pub mod Contents
+pub mod Finished
 pub mod Sized
-pub mod Store

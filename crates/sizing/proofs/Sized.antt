@@ -1,9 +1,9 @@
 -- The whole sizing, put together from its steps. Assumes nothing.
-use mathlib.Core.Path.{_≡_, refl, sym, ap, ap₂, _∙_, subst}
+use mathlib.Core.Path.{_≡_, sym, ap, ap₂, _∙_, subst}
 use mathlib.Core.List.{List, map}
 use Prim.Native.Nat.{ℕ, _≤_}
 use native.Mathlib.Omega.{arith}
-use Rattle.laws.specs.Lists.{All, keep}
+use Rattle.laws.specs.Lists.{keep}
 use Rattle.laws.specs.Alls.{all-map}
 use Rattle.kinds.specs.Kinds.{Row}
 use Rattle.kinds.specs.declared.space.Constraint.{Constraint}

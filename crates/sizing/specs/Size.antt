@@ -1,5 +1,4 @@
 -- What the sizing asks of a board that has passed the checks, and its free space in the words of the rule. Assumes nothing.
-use mathlib.Core.Path.{_≡_}
 use Prim.Native.Nat.{ℕ, _+_, _≤_}
 use mathlib.Core.List.{List, map}
 use lib.ListN.{length}

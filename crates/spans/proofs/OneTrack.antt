@@ -6,18 +6,14 @@ use native.Mathlib.Omega.{arith}
 use lib.ListN.{length, getD, take, drop, set, length-map, List·getD-map}
 use Rattle.laws.specs.Lists.{All, inTurn, all-at}
 use Rattle.fill.specs.Rule.{mostTracks}
-use Rattle.kinds.specs.Kinds.{Row, itemOf}
+use Rattle.kinds.specs.Kinds.{Row}
 use Rattle.kinds.specs.declared.space.Constraint.{Constraint}
-use Rattle.kinds.specs.declared.item.Item.{Item}
 use Rattle.lines.specs.declared.limit.Limit.{Limit}
 use Rattle.lines.specs.declared.line.Line.{Line}
 use Rattle.lines.specs.declared.measured.Measured.{Measured}
-use Rattle.lines.specs.declared.measured.Part.{Part}
-use Rattle.lines.specs.declared.measured.Part.the-variants.{LeftOut, Takes}
 use Rattle.lines.specs.declared.passes.Pass.the-variants.{Settle}
-use Rattle.lines.specs.Rule.{line, complete, settled, baseAsked, limitAsked, withItem, withItemAt, singles}
+use Rattle.lines.specs.Rule.{line, settled, baseAsked, limitAsked, withItem, withItemAt, singles}
 use Rattle.lines.specs.Rows.{lineOf, linesOf, passOf}
-use Rattle.lines.specs.Parts.{partIs}
 use Rattle.lines.specs.Fits.{LineFits, LinesFit, MeasuredFits, MeasuredFit}
 use Rattle.lines.specs.Chains.{Rising, partAt, chained}
 use Rattle.lines.proofs.Fits.{with-item-fits, singles-fit}
@@ -62,24 +58,6 @@ module _ (c : Constraint) (item : Measured) (rows : List Row) (v : Row) (l : Lin
   item-taken h f g =
       let e : linesOf (set rows (item .start) v) ≡ withItemAt c item (linesOf rows) = change-set lineOf (withItem c item) (item .start) rows v [] h item-line in
       (e, rw e (with-item-fits c (length rows) item (linesOf rows) g f))
-
--- an item by its part
-module _ (p : Part) (i : Item) (row : Row) (e : partIs p ≡ complete i) (o : i ≡ itemOf row) where
-  part-told : complete (itemOf row) ≡ partIs p
-  part-told = ap complete (sym o) ∙ sym e
-
-  pub part-left : p ≡ LeftOut → (c : Constraint) (ls : List Line) → ls ≡ inTurn (withItemAt c) (complete (itemOf row)) ls
-  unfolding inTurn
-  part-left k c ls = ap (λ (is : List Measured). inTurn (withItemAt c) is ls) (sym (part-told ∙ ap partIs k))
-
-  module _ (m : Measured) (k : p ≡ Takes m) where
-    pub part-fits : (n : ℕ) → MeasuredFit n (complete (itemOf row)) → MeasuredFits n m
-    unfolding All
-    part-fits n f = (rw (part-told ∙ ap partIs k) at f) .0
-
-    pub part-taken : (c : Constraint) (ls out : List Line) → out ≡ withItemAt c m ls → out ≡ inTurn (withItemAt c) (complete (itemOf row)) ls
-    unfolding inTurn
-    part-taken c ls out t = t ∙ ap (λ (is : List Measured). inTurn (withItemAt c) is ls) (sym (part-told ∙ ap partIs k))
 
 -- the item at the head of a chain that fits, on as many lines
 pub head-fits : (rows : List Row) (nexts : List ℕ) (i : ℕ) → Rising nexts → i < length nexts → (n m : ℕ) → m ≡ n

@@ -2,16 +2,11 @@ use borrow.Author.Needs.{needs}
 use Rattle.sizing.proofs.size.Statement.{statement}
 use mathlib.Core.Path.{sym}
 use mathlib.Core.Bool.{false}
-use native.Mathlib.Omega.{arith}
 use lib.ListN.{length, replicate, length-replicate}
-use lib.Seq.{length-take-le}
 use Rattle.sizing.proofs.Store.{take-replicate, length-front}
 use Prim.Native.Nat.{ℕ}
 use mathlib.Core.List.{List}
 use Rattle.sizing.proofs.size.Tie as tie
-use Rattle.sizing.proofs.size.Reads as reads
-use Rattle.sizing.proofs.size.Lts as lts
-use Rattle.sizing.proofs.size_with.Reads as size-with-reads
 
 -- `size` lends a working store of its own. Assumes nothing.
 

@@ -1,9 +1,9 @@
 -- `size_with` goes through the steps in order. Assumes nothing.
 use borrow.Author.Needs.{needs}
 use Rattle.sizing.proofs.size_with.Statement.{statement}
-use mathlib.Core.Path.{_≡_, ap, sym, _∙_}
+use mathlib.Core.Path.{_≡_, sym, _∙_}
 use mathlib.Core.List.{map}
-use Prim.Native.Nat.{ℕ, _≤_, _<_}
+use Prim.Native.Nat.{_≤_}
 use native.Mathlib.Omega.{arith}
 use lib.ListN.{length, getD, length-map}
 use Rattle.kinds.specs.Kinds.{trackOf, itemOf}
@@ -15,11 +15,6 @@ use Rattle.spans.proofs.Raised.{chain-fits-as}
 use Rattle.sizing.proofs.Contents.{items-fit-as, zeros-as}
 use Rattle.sizing.proofs.Sized.{bases-fit, maximised-fit, sized}
 use Rattle.sizing.proofs.size_with.Tie as tie
-use Rattle.sizing.proofs.size_with.Reads as reads
-use Rattle.sizing.proofs.size_with.Lts as lts
-use Rattle.sizing.proofs.content.content.Reads as content-reads
-use Rattle.sizing.proofs.dots.maximise.Reads as maximise-reads
-use Rattle.sizing.proofs.finish.finish.Reads as finish-reads
 
 content-requires : tie.Need-content-requires
 content-requires c κs =

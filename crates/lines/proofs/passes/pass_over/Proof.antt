@@ -1,16 +1,13 @@
 -- `pass_over` makes the pass of every line, front to back. Assumes nothing.
 use borrow.Author.Needs.{needs}
 use Rattle.lines.proofs.passes.pass_over.Statement.{statement}
-use mathlib.Core.Path.{_≡_, refl, sym, ap, _∙_}
-use mathlib.Core.List.{List, [], _∷_, _++_, map}
+use mathlib.Core.Path.{_≡_, refl}
+use mathlib.Core.List.{[], _++_, map}
 use Prim.Native.Nat.{_+_, _-_, _≤_, zero-le}
 use lib.ListN.{length, take, drop, length-set}
 use Rattle.lines.specs.Rows.{lineOf, linesOf, passOf}
 use Rattle.lines.proofs.Walks.{map-step, seen-end}
 use Rattle.lines.proofs.passes.pass_over.Tie as tie
-use Rattle.lines.proofs.passes.pass_over.Reads as reads
-use Rattle.lines.proofs.passes.pass_over.Lts as lts
-use Rattle.lines.proofs.passes.passed.Reads as passed-reads
 
 abbrev Inv-loop : tie.InvT-loop
 Inv-loop pass lines₀ i₀ lines i =

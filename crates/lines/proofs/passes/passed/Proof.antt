@@ -8,12 +8,6 @@ use Rattle.lines.specs.declared.passes.Pass.{Pass}
 use Rattle.lines.specs.Rule.{line, limitSize}
 use Rattle.lines.specs.Rows.{lineOf, passOf}
 use Rattle.lines.proofs.passes.passed.Tie as tie
-use Rattle.lines.proofs.passes.passed.Reads as reads
-use Rattle.lines.proofs.passes.passed.Lts as lts
-use Rattle.lines.proofs.line.Line.limit_size.Reads as limit-size-reads
-use Rattle.lines.proofs.line.Line.of_row.Reads as of-row-reads
-use Rattle.lines.proofs.line.with_sizes.Reads as with-sizes-reads
-use Rattle.lines.proofs.passes.settled.Reads as settled-reads
 
 -- `passed` is what a pass makes of one line. Assumes nothing.
 

@@ -6,11 +6,6 @@ use Rattle.lines.specs.declared.line.Line.{Line}
 use Rattle.lines.specs.Rule.{line, settled}
 use Rattle.lines.specs.Rows.{lineOf}
 use Rattle.lines.proofs.passes.settled.Tie as tie
-use Rattle.lines.proofs.passes.settled.Reads as reads
-use Rattle.lines.proofs.passes.settled.Lts as lts
-use Rattle.lines.proofs.limit.Limit.at_least.Reads as at-least-reads
-use Rattle.lines.proofs.line.Line.of_row.Reads as of-row-reads
-use Rattle.lines.proofs.line.with_sizes.Reads as with-sizes-reads
 
 -- `settled` raises a limit to its base. Assumes nothing.
 

@@ -12,9 +12,6 @@ use Rattle.lines.specs.Rows.{lineOf, linesOf}
 use Rattle.lines.proofs.Walks.{seen-step, seen-end}
 use Rattle.lines.proofs.Starts.{startsFrom, starts-next, starts-end}
 use Rattle.lines.proofs.passes.start.Tie as tie
-use Rattle.lines.proofs.passes.start.Reads as reads
-use Rattle.lines.proofs.passes.start.Lts as lts
-use Rattle.lines.proofs.line.start_row.Reads as start-row-reads
 
 abbrev Inv-loop : tie.InvT-loop
 Inv-loop tracks lines₀ i₀ lines i =

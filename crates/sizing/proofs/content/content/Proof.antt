@@ -1,20 +1,16 @@
 -- `content` prepares the lines and spreads the longer spans. Assumes nothing.
 use borrow.Author.Needs.{needs}
 use Rattle.sizing.proofs.content.content.Statement.{statement}
-use mathlib.Core.Path.{_≡_, ap, sym, _∙_}
+use mathlib.Core.Path.{_≡_, sym, _∙_}
 use mathlib.Core.List.{map}
-use Prim.Native.Nat.{ℕ, _≤_, _<_}
+use Prim.Native.Nat.{_≤_}
 use native.Mathlib.Omega.{arith}
-use lib.ListN.{length, getD, length-map}
+use lib.ListN.{length, length-map}
 use Rattle.kinds.specs.Kinds.{trackOf, itemOf}
 use Rattle.chains.proofs.Batches.{gathered-fits, gathered-whole}
 use Rattle.spans.proofs.Raised.{chain-fits-as}
 use Rattle.sizing.proofs.Contents.{items-fit-as, zeros-as, content-made}
 use Rattle.sizing.proofs.content.content.Tie as tie
-use Rattle.sizing.proofs.content.content.Reads as reads
-use Rattle.sizing.proofs.content.content.Lts as lts
-use Rattle.sizing.proofs.content.prepare.Reads as prepare-reads
-use Rattle.sizing.proofs.content.spread.Reads as spread-reads
 
 prepare-requires : tie.Need-prepare-requires
 prepare-requires c κs = search needs

@@ -1,11 +1,11 @@
 -- `prepare` starts the lines, gathers the batches and takes the items in one track. Assumes nothing.
 use borrow.Author.Needs.{needs}
 use Rattle.sizing.proofs.content.prepare.Statement.{statement}
-use mathlib.Core.Path.{_≡_, ap, sym, _∙_, subst}
+use mathlib.Core.Path.{sym, subst}
 use mathlib.Core.List.{map}
-use Prim.Native.Nat.{ℕ, _≤_, _<_}
+use Prim.Native.Nat.{_≤_}
 use native.Mathlib.Omega.{arith}
-use lib.ListN.{length, getD, length-map}
+use lib.ListN.{length, length-map}
 use Rattle.kinds.specs.Kinds.{trackOf, itemOf}
 use Rattle.lines.specs.Fits.{LinesFit}
 use Rattle.lines.proofs.Fits.{start-fits}
@@ -13,11 +13,6 @@ use Rattle.chains.proofs.Batches.{gathered-fits}
 use Rattle.spans.proofs.Raised.{chain-fits-as}
 use Rattle.sizing.proofs.Contents.{items-fit-as, prepared}
 use Rattle.sizing.proofs.content.prepare.Tie as tie
-use Rattle.sizing.proofs.content.prepare.Reads as reads
-use Rattle.sizing.proofs.content.prepare.Lts as lts
-use Rattle.chains.proofs.gather.Reads as gather-reads
-use Rattle.lines.proofs.start.Reads as start-reads
-use Rattle.spans.proofs.singles.Reads as singles-reads
 
 start-requires : tie.Need-start-requires
 start-requires c κs = search needs

@@ -1,19 +1,12 @@
 -- `spread` takes the longer spans, the last batch and the missing limits. Assumes nothing.
 use borrow.Author.Needs.{needs}
 use Rattle.sizing.proofs.content.spread.Statement.{statement}
-use mathlib.Core.Path.{_≡_, ap, _∙_}
-use Prim.Native.Nat.{ℕ, _≤_, _<_}
 use native.Mathlib.Omega.{arith}
-use lib.ListN.{length, getD, replicate}
+use lib.ListN.{length, getD}
 use Rattle.lines.specs.Chains.{chained}
 use Rattle.spans.proofs.Raised.{working-after, chain-fits-as}
 use Rattle.sizing.proofs.Contents.{zeros-as, spread-made}
 use Rattle.sizing.proofs.content.spread.Tie as tie
-use Rattle.sizing.proofs.content.spread.Reads as reads
-use Rattle.sizing.proofs.content.spread.Lts as lts
-use Rattle.lines.proofs.pass_over.Reads as pass-over-reads
-use Rattle.spans.proofs.batched.Reads as batched-reads
-use Rattle.spans.proofs.longer.Reads as longer-reads
 
 longer-requires : tie.Need-longer-requires
 longer-requires c κs =

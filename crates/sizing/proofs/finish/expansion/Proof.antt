@@ -2,8 +2,6 @@
 use borrow.Author.Needs.{needs}
 use Rattle.sizing.proofs.finish.expansion.Statement.{statement}
 use Rattle.sizing.proofs.finish.expansion.Tie as tie
-use Rattle.sizing.proofs.finish.expansion.Reads as reads
-use Rattle.sizing.proofs.finish.expansion.Lts as lts
 
 enum-known-inner : tie.Need-enum-known-inner
 enum-known-inner c = search needs

@@ -1,20 +1,16 @@
 -- `write_places` tells each line in its place, front to back. Assumes nothing.
 use borrow.Author.Needs.{needs}
 use Rattle.sizing.proofs.finish.write_places.Statement.{statement}
-use mathlib.Core.Path.{_≡_, refl, sym, ap, ap₂, _∙_}
+use mathlib.Core.Path.{_≡_, refl, sym, ap, _∙_}
 use mathlib.Core.List.{List, [], _∷_, _++_}
 use Prim.Native.Nat.{ℕ, _+_, _-_, _≤_, zero-le}
-use lib.ListN.{length, take, drop, length-set}
+use lib.ListN.{length, take, length-set}
 use Rattle.laws.specs.Walk.{store-step, store-end}
 use Rattle.kinds.specs.Kinds.{Row}
 use Rattle.lines.specs.declared.line.Line.{Line}
 use Rattle.lines.specs.Rule.{limitSize}
 use Rattle.sizing.proofs.Places.{placesFrom, places-next, places-end}
 use Rattle.sizing.proofs.finish.write_places.Tie as tie
-use Rattle.sizing.proofs.finish.write_places.Reads as reads
-use Rattle.sizing.proofs.finish.write_places.Lts as lts
-use Rattle.lines.proofs.line.Line.limit_size.Reads as limit-size-reads
-use Rattle.lines.proofs.line.Line.of_row.Reads as of-row-reads
 
 abbrev Inv-loop : tie.InvT-loop
 Inv-loop lines places₀ i₀ places i =

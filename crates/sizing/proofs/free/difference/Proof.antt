@@ -4,12 +4,10 @@ use Rattle.sizing.proofs.free.difference.Statement.{statement}
 use mathlib.Core.Path.{ap, _∙_}
 use lib.IntN.{ℤ, negsuc, _-ℤ_}
 use mir.Facts.{toZ-ofZ}
-use mir.Val.{SFits, toZ, ofZ}
+use mir.Val.{toZ, ofZ}
 use mir.Syntax.{w32}
 use Rattle.sizing.proofs.Difference.{pos-sub, pos-fits, neg-sub, neg-fits, behind-fits}
 use Rattle.sizing.proofs.free.difference.Tie as tie
-use Rattle.sizing.proofs.free.difference.Reads as reads
-use Rattle.sizing.proofs.free.difference.Lts as lts
 
 cast-result : tie.Need-cast-result
 cast-result c = search needs

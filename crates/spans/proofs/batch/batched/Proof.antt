@@ -1,8 +1,6 @@
 -- `batched` runs the letters of a batch that has items. Assumes nothing.
 use borrow.Author.Needs.{needs}
 use Rattle.spans.proofs.batch.batched.Statement.{statement}
-use mathlib.Core.Path.{_≡_}
-use native.Mathlib.Omega.{arith}
 use Prim.Native.Nat.{_≤_, _<_}
 use lib.ListN.{length}
 use Rattle.lines.specs.Rows.{linesOf}
@@ -10,9 +8,6 @@ use Rattle.lines.specs.Chains.{chained}
 use Rattle.lines.proofs.Chains.{chained-end}
 use Rattle.spans.proofs.Raised.{batch-of-none, batch-of-steps}
 use Rattle.spans.proofs.batch.batched.Tie as tie
-use Rattle.spans.proofs.batch.batched.Reads as reads
-use Rattle.spans.proofs.batch.batched.Lts as lts
-use Rattle.spans.proofs.batch.raise_all.Reads as raise-all-reads
 
 returns : tie.Need-returns
 returns c =

@@ -4,8 +4,6 @@ use Rattle.spans.proofs.batch.has_place.Statement.{statement}
 use mathlib.Core.Path.{refl}
 use borrow.Author.Tests.{ne-eqb}
 use Rattle.spans.proofs.batch.has_place.Tie as tie
-use Rattle.spans.proofs.batch.has_place.Reads as reads
-use Rattle.spans.proofs.batch.has_place.Lts as lts
 
 enum-told : tie.Need-enum-told
 enum-told c = search needs

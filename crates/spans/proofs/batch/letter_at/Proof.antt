@@ -1,10 +1,7 @@
 -- `letter_at` names the letters in order. Assumes nothing.
-use borrow.Author.Needs.{needs}
 use Rattle.spans.proofs.batch.letter_at.Statement.{statement}
 use borrow.Author.Tests.{ne-eqb}
 use Rattle.spans.proofs.batch.letter_at.Tie as tie
-use Rattle.spans.proofs.batch.letter_at.Reads as reads
-use Rattle.spans.proofs.batch.letter_at.Lts as lts
 
 returns : tie.Need-returns
 returns c = rw (c .if1 .taken)

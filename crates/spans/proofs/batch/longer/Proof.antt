@@ -5,9 +5,7 @@ use mathlib.Core.Path.{_≡_, refl, ap, sym, _∙_}
 use Prim.Native.Nat.{ℕ, suc, _+_, _-_, _≤_, _<_}
 use native.Mathlib.Omega.{arith}
 use lib.ListN.{length, getD, replicate, length-replicate}
-use mathlib.Core.List.{List}
 use Rattle.laws.specs.Lists.{inTurn, upFrom}
-use Rattle.lines.specs.declared.line.Line.{Line}
 use Rattle.lines.specs.Rule.{batched}
 use Rattle.lines.specs.Rows.{linesOf}
 use Rattle.lines.specs.Chains.{chained}
@@ -15,9 +13,6 @@ use Rattle.spans.specs.Work.{Working}
 use Rattle.spans.proofs.Parts.{up-turn, up-end}
 use Rattle.spans.proofs.Raised.{working-after, chain-fits-as}
 use Rattle.spans.proofs.batch.longer.Tie as tie
-use Rattle.spans.proofs.batch.longer.Reads as reads
-use Rattle.spans.proofs.batch.longer.Lts as lts
-use Rattle.spans.proofs.batch.batched.Reads as batched-reads
 
 abbrev Inv-loop : tie.InvT-loop
 Inv-loop constraint heads nexts items lines₀ increases₀ gains₀ rests₀ k₀ lines increases gains rests k =

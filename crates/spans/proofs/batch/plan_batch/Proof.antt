@@ -12,9 +12,6 @@ use Rattle.lines.specs.Chains.{chained}
 use Rattle.lines.proofs.Chains.{walk-turn, walk-end, all-part, all-rest}
 use Rattle.letters.specs.Letters.{letterOf}
 use Rattle.spans.proofs.batch.plan_batch.Tie as tie
-use Rattle.spans.proofs.batch.plan_batch.Reads as reads
-use Rattle.spans.proofs.batch.plan_batch.Lts as lts
-use Rattle.spans.proofs.batch.plan_part.Reads as plan-part-reads
 
 abbrev Inv-loop : tie.InvT-loop
 Inv-loop letter constraint first nexts items lines increases₀ gains₀ rests₀ i₀ increases gains rests i =

@@ -1,17 +1,10 @@
 use borrow.Author.Needs.{needs}
 use Rattle.spans.proofs.batch.plan_item.Statement.{statement}
-use mathlib.Core.Path.{_≡_, sym, ap, _∙_}
-use Prim.Native.Nat.{_+_, _-_, _≤_}
+use mathlib.Core.Path.{sym, _∙_}
 use native.Mathlib.Omega.{arith}
-use lib.ListN.{length, take, drop}
 use lib.Seq.{length-take-le}
 use Rattle.spans.proofs.Planned.{length-between, between-few, between-fits, extra-few, laid-over, gains-long}
 use Rattle.spans.proofs.batch.plan_item.Tie as tie
-use Rattle.spans.proofs.batch.plan_item.Reads as reads
-use Rattle.spans.proofs.batch.plan_item.Lts as lts
-use Rattle.letters.proofs.extra.Reads as extra-reads
-use Rattle.letters.proofs.lay_over.Reads as lay-over-reads
-use Rattle.letters.proofs.share_extra.Reads as share-extra-reads
 
 -- `plan_item` lays what one item gives over the increases. Assumes nothing.
 

@@ -7,11 +7,6 @@ use Rattle.lines.specs.Rows.{linesOf}
 use Rattle.letters.specs.Letters.{letterOf}
 use Rattle.spans.proofs.Parted.{part-left, part-taken, part-fits}
 use Rattle.spans.proofs.batch.plan_part.Tie as tie
-use Rattle.spans.proofs.batch.plan_part.Reads as reads
-use Rattle.spans.proofs.batch.plan_part.Lts as lts
-use Rattle.kinds.proofs.item.Item.of_row.Reads as of-row-reads
-use Rattle.lines.proofs.part_of.Reads as part-of-reads
-use Rattle.spans.proofs.batch.plan_item.Reads as plan-item-reads
 
 of-row-requires : tie.Need-of-row-requires
 of-row-requires c κs = search needs

@@ -5,10 +5,6 @@ use mathlib.Core.Path.{ap, _∙_}
 use lib.ListN.{length, length-replicate}
 use Rattle.spans.proofs.Raised.{length-planned, planned-fit, raised-is}
 use Rattle.spans.proofs.batch.raise.Tie as tie
-use Rattle.spans.proofs.batch.raise.Reads as reads
-use Rattle.spans.proofs.batch.raise.Lts as lts
-use Rattle.letters.proofs.apply.Reads as apply-reads
-use Rattle.spans.proofs.batch.plan_batch.Reads as plan-batch-reads
 
 plan-batch-requires : tie.Need-plan-batch-requires
 plan-batch-requires c κs =

@@ -2,16 +2,12 @@ use borrow.Author.Needs.{needs}
 use Rattle.spans.proofs.batch.raise_all.Statement.{statement}
 use mathlib.Core.Path.{_≡_, refl, ap, sym, _∙_}
 use Prim.Native.Nat.{_-_, _≤_, zero-le}
-use native.Mathlib.Omega.{arith}
 use lib.ListN.{length, replicate, length-replicate}
 use Rattle.lines.specs.Rows.{linesOf}
 use Rattle.lines.specs.Chains.{chained}
 use Rattle.spans.specs.Work.{Working, letterSteps}
 use Rattle.spans.proofs.Raised.{steps-more, working-after, chain-fits-as}
 use Rattle.spans.proofs.batch.raise_all.Tie as tie
-use Rattle.spans.proofs.batch.raise_all.Reads as reads
-use Rattle.spans.proofs.batch.raise_all.Lts as lts
-use Rattle.spans.proofs.batch.raise_at.Reads as raise-at-reads
 
 -- `raise_all` raises letter by letter, in order. Assumes nothing.
 

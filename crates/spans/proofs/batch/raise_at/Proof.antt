@@ -6,11 +6,6 @@ use Rattle.lines.specs.Chains.{chained}
 use borrow.Author.Tests.{not-true, not-false}
 use Rattle.spans.proofs.Raised.{step-left, step-taken}
 use Rattle.spans.proofs.batch.raise_at.Tie as tie
-use Rattle.spans.proofs.batch.raise_at.Reads as reads
-use Rattle.spans.proofs.batch.raise_at.Lts as lts
-use Rattle.spans.proofs.batch.has_place.Reads as has-place-reads
-use Rattle.spans.proofs.batch.letter_at.Reads as letter-at-reads
-use Rattle.spans.proofs.batch.raise.Reads as raise-reads
 
 has-place-requires : tie.Need-has-place-requires
 has-place-requires c κs = search needs

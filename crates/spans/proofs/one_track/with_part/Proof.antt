@@ -3,7 +3,8 @@ use borrow.Author.Needs.{needs}
 use Rattle.spans.proofs.one_track.with_part.Statement.{statement}
 use lib.ListN.{length}
 use Rattle.lines.specs.Rows.{linesOf}
-use Rattle.spans.proofs.OneTrack.{part-left, part-fits, part-taken}
+use Rattle.lines.specs.Rule.{withItemAt}
+use Rattle.spans.proofs.Parted.{part-left, part-fits, part-taken}
 use Rattle.spans.proofs.one_track.with_part.Tie as tie
 
 of-row-requires : tie.Need-of-row-requires
@@ -26,7 +27,7 @@ with-item-requires c κs =
 returns : tie.Need-returns
 returns c =
     let s = c .before .before .before .before in
-    (part-left _ _ (s .args .row) (c .before .before .part-of .ensures) (c .before .before .before .of-row .ensures) (c .enum-told .given .1) (s .args .constraint) (linesOf (s .args .lines .now)), s .pre .0)
+    (part-left _ _ (s .args .row) (c .before .before .part-of .ensures) (c .before .before .before .of-row .ensures) (withItemAt (s .args .constraint)) (linesOf (s .args .lines .now)) (c .enum-told .given .1), s .pre .0)
 
 same-length : tie.Need-same-length
 same-length c = search needs
@@ -35,7 +36,7 @@ returns-2 : tie.Need-returns-2
 returns-2 c =
     let s = c .before .before .before .before .before .before .before .before in
     let e = c .before .with-item .ensures in
-    (part-taken _ _ (s .args .row) (c .before .before .before .before .before .before .part-of .ensures) (c .before .before .before .before .before .before .before .of-row .ensures) _ (c .before .before .before .before .part .given .1) (s .args .constraint) (linesOf (s .args .lines .now)) _ (e .0), e .1)
+    (part-taken _ _ (s .args .row) (c .before .before .before .before .before .before .part-of .ensures) (c .before .before .before .before .before .before .before .of-row .ensures) (withItemAt (s .args .constraint)) (linesOf (s .args .lines .now)) _ (c .before .before .before .before .part .given .1) _ (e .0), e .1)
 
 pub with-part-spec : {M : Type 1} → statement M
 with-part-spec =

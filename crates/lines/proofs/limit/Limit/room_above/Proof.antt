@@ -7,9 +7,6 @@ use Rattle.lines.specs.declared.limit.Limit.{Limit}
 use Rattle.lines.specs.Rule.{roomTo}
 use Rattle.lines.proofs.Lines.{sub-sub}
 use Rattle.lines.proofs.limit.Limit.room_above.Tie as tie
-use Rattle.lines.proofs.limit.Limit.room_above.Reads as reads
-use Rattle.lines.proofs.limit.Limit.room_above.Lts as lts
-use Rattle.lines.proofs.limit.less.Reads as less-reads
 
 -- `room_above` is the room above a size and a gain; none stays none. Assumes nothing.
 

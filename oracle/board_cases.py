@@ -30,6 +30,7 @@ from board_model import (
     AUTO, BOARD, DEFINITE, FIT, FIXED, FR, LARGEST, LONGEST, MAX, MIN, MOST_TRACKS, REFUSAL, SPACE_LIMIT, UNDER_MAX, UNDER_MIN,
     Item, Track, board_of, byte_faults, fill, printed, record_faults, sheet_in,
 )
+from case_text import runs
 
 
 # ---- bytes of a sheet
@@ -86,17 +87,6 @@ def sheet(tracks, items=(), constraint=definite(100), inner=100, stretch=0):
 
 
 # ---- text
-
-
-def runs(entries):
-    """The entries, of which more than three of a kind in a row are written once."""
-    told = []
-    for entry in entries:
-        if told and told[-1][1] == entry:
-            told[-1][0] += 1
-        else:
-            told.append([1, entry])
-    return [word for times, entry in told for word in ([f'{times}x{entry}'] if times > 3 else [entry] * times)]
 
 
 def listed_places(places):

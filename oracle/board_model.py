@@ -24,6 +24,8 @@ Where the paper leaves a choice, it is read so:
 import collections
 from fractions import Fraction
 
+from case_text import Front, Refused
+
 MOST_TRACKS, MOST_ITEMS = 256, 1_024
 SIZE_LIMIT, SPACE_LIMIT, FACTOR_LIMIT = 65_535, 16_777_215, 100_000
 LARGEST = 4_294_967_295
@@ -48,21 +50,8 @@ Item = collections.namedtuple('Item', 'start span row')
 # ---- the sheet, front to back
 
 
-class Refused(Exception):
-    def __init__(self, number, place):
-        super().__init__(number, place)
-        self.number, self.place = number, place
-
-
-class Bytes:
-    """The bytes of a sheet, with the place of the next one."""
-
-    def __init__(self, data):
-        self.data, self.at = data, 0
-
-    def number(self, size):
-        self.at += size
-        return int.from_bytes(self.data[self.at - size:self.at], 'little')
+class Bytes(Front):
+    """A sheet, section by section."""
 
     def records(self, allowed, size, record):
         """A section: its count, then so many records."""
@@ -75,10 +64,6 @@ class Bytes:
             self.whole(size)
             found.append(record())
         return found
-
-    def whole(self, size):
-        if self.at + size > len(self.data):
-            raise Refused(1, len(self.data))
 
     def tagged(self, listed):
         tag = self.number(1)

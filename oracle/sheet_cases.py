@@ -40,6 +40,8 @@ tag and number. 4x before a row or a group of bytes says that it stands there fo
 """
 import sys
 
+from case_text import Front, Refused, runs
+
 MOST_TRACKS, MOST_ITEMS = 256, 1_024
 LARGEST = 4_294_967_295
 READ, WRITE, END = 0, 1, 2
@@ -55,27 +57,8 @@ STRETCH = (0, 1)
 # ---- bytes, front to back
 
 
-class Refused(Exception):
-    def __init__(self, number, place):
-        super().__init__(number, place)
-        self.number, self.place = number, place
-
-
-class Reader:
-    """The bytes from the front, with the place of the next one."""
-
-    def __init__(self, data):
-        self.data, self.at = data, 0
-
-    def whole(self, size):
-        """So many bytes are there, or the sheet is short."""
-        if len(self.data) - self.at < size:
-            raise Refused(1, len(self.data))
-
-    def number(self, size):
-        value = int.from_bytes(self.data[self.at:self.at + size], 'little')
-        self.at += size
-        return value
+class Reader(Front):
+    """The bytes from the front, part by part."""
 
     def count(self, allowed):
         self.whole(2)
@@ -238,17 +221,6 @@ def answer(call, *arguments):
 
 
 # ---- text
-
-
-def runs(entries):
-    """The entries, of which more than three of a kind in a row are written once."""
-    told = []
-    for entry in entries:
-        if told and told[-1][1] == entry:
-            told[-1][0] += 1
-        else:
-            told.append([1, entry])
-    return [word for times, entry in told for word in ([f'{times}x{entry}'] if times > 3 else [entry] * times)]
 
 
 def listed_rows(rows):

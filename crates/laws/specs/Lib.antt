@@ -9,3 +9,4 @@ pub mod Rows
 pub mod Lists
 pub mod Alls
 pub mod Spans
+pub mod Turns

@@ -1,0 +1,6 @@
+-- The laws of the domain. A function's own proof stands in the folder of its name.
+
+-- a float that passes a comparison
+pub mod NoNan
+-- numbers looked through in order, findings, and lengths
+pub mod Outside

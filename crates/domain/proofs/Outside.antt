@@ -1,0 +1,129 @@
+-- The numbers of a call looked through in order, what a finding says, and what lengths that fit say. Assumes nothing.
+use mathlib.Core.Path.{_≡_, refl, sym, ap, _∙_}
+use mathlib.Core.Bool.{Bool, true, false, cond, _&&_}
+use mathlib.Core.List.{List, [], _∷_, _++_}
+use Prim.Native.Nat.{ℕ, suc, _+_, _*_, _≤_, _<_}
+use native.Mathlib.Omega.{arith}
+use lib.Dec.{eqb}
+use lib.Ieee.{Float, nan}
+use lib.ListN.{length, getD, drop, length-map, drop-of-length-le}
+use borrow.Author.Tests.{leb-true, eqb-true}
+use Rattle.laws.specs.Walk.{next}
+use Rattle.domain.specs.declared.kind.Kind.{Kind}
+use Rattle.domain.specs.declared.refusal.Refusal.{Refusal}
+use Rattle.domain.specs.declared.refusal.Refusal.the-variants as refusal
+use Rattle.domain.specs.declared.refusal.Fault.{Fault}
+use Rattle.domain.specs.declared.refusal.Fault.the-variants.{Fine, Found}
+use Rattle.domain.specs.Domain.{Number, given, accepted, numbersOf, trackNumbers, tracksNumbers, Finding, fine, refused, first, outsideFrom, lengthsFit}
+use Rattle.domain.specs.Answer.{numberOf, placeOf, findingOf, isFound}
+
+-- ---- the first of two findings
+
+pub first-fine : (a b : Finding) → first a b ≡ fine → (a ≡ fine) × (b ≡ fine)
+first-fine fine b e = (refl, e)
+first-fine (refused number place) b e = (e, cc)
+
+-- what comes behind a finding does not matter
+pub first-of-found : (f : Fault) (g : Finding) → isFound f ≡ true → first (findingOf f) g ≡ findingOf f
+first-of-found Fine g e = cc
+first-of-found (Found r) g e = refl
+
+pub first-of-not-found : (f : Fault) (g : Finding) → isFound f ≡ false → first (findingOf f) g ≡ g
+first-of-not-found Fine g e = refl
+first-of-not-found (Found r) g e = cc
+
+-- ---- faults of one finding are the same: from its number and place, a refusal can be made again
+
+refusalOf : (number place : ℕ) → Refusal
+refusalOf number place = cond (eqb number 12) refusal.Lengths (cond (eqb number 14) refusal.Gutters (refusal.Outside place))
+
+refusal-again : (r : Refusal) → refusalOf (numberOf r) (placeOf r) ≡ r
+unfolding refusalOf
+refusal-again refusal.Lengths = refl
+refusal-again refusal.Gutters = refl
+refusal-again (refusal.Outside index) = refl
+
+faultOf : Finding → Fault
+faultOf fine = Fine
+faultOf (refused number place) = Found (refusalOf number place)
+
+fault-again : (a : Fault) → faultOf (findingOf a) ≡ a
+unfolding faultOf
+fault-again Fine = refl
+fault-again (Found r) = ap Found (refusal-again r)
+
+pub fault-of-finding : (a b : Fault) → findingOf a ≡ findingOf b → a ≡ b
+fault-of-finding a b e = sym (fault-again a) ∙ ap faultOf e ∙ fault-again b
+
+-- ---- 13: numbers one after another
+
+pub outside-append : (k : ℕ) (xs ys : List Number) → outsideFrom k (xs ++ ys) ≡ first (outsideFrom k xs) (outsideFrom (k + length xs) ys)
+unfolding outsideFrom
+outside-append k [] ys = ap (λ (i : ℕ). outsideFrom i ys) (omega arith)
+outside-append k (x ∷ xs) ys =
+    let place : suc k + length xs ≡ k + suc (length xs) = omega arith in
+    by-test (accepted x) (outsideFrom (suc k) xs) (outsideFrom (k + suc (length xs)) ys) (rw place at (outside-append (suc k) xs ys))
+  where
+    by-test : (b : Bool) {u : Finding} (v w : Finding) → u ≡ first v w → cond b u (refused 13 k) ≡ first (cond b v (refused 13 k)) w
+    by-test true v w e = e
+    by-test false v w e = refl
+
+-- the code looks at one number, and takes the first of what it finds there and behind
+pub outside-then : (k j : ℕ) (x : Number) (ys : List Number) {f g r : Finding} → r ≡ first f g
+    → f ≡ outsideFrom k (x ∷ []) → g ≡ outsideFrom j ys → j ≡ k + 1 → r ≡ outsideFrom k (x ∷ ys)
+outside-then k j x ys e here behind n = e ∙ rw (here, behind, n) (sym (outside-append k (x ∷ []) ys))
+
+-- The code walks numbers and has come to those from k on, of which the first ones are looked at now: f is what it finds in
+-- them, and b that it is a refusal.
+module _ (k : ℕ) {all : List Number} (front rest : List Number) (parted : all ≡ front ++ rest) {whole : Finding} (walk : outsideFrom k all ≡ whole) (f : Fault) (here : findingOf f ≡ outsideFrom k front) {b : Bool} (is : b ≡ isFound f) where
+  found-or-behind : first (findingOf f) (outsideFrom (k + length front) rest) ≡ whole
+  found-or-behind = rw here (sym (outside-append k front rest) ∙ (rw parted at walk))
+
+  pub outside-found : b ≡ true → findingOf f ≡ whole
+  outside-found t = sym (first-of-found f _ (sym is ∙ t)) ∙ found-or-behind
+
+  pub outside-next : (j : ℕ) → j ≡ k + length front → b ≡ false → outsideFrom j rest ≡ whole
+  outside-next j n t = rw n (sym (first-of-not-found f _ (sym is ∙ t)) ∙ found-or-behind)
+
+-- the walk's end
+pub outside-end : (k : ℕ) {all : List Number} {whole : Finding} → outsideFrom k all ≡ whole → all ≡ [] → fine ≡ whole
+unfolding outsideFrom
+outside-end k walk none = rw none at walk
+
+pub length-numbers-of : (kind : Kind) (xs : List Float) → length (numbersOf kind xs) ≡ length xs
+length-numbers-of kind xs = length-map xs (given kind)
+
+pub length-tracks-numbers : (rows : List (List Float)) → length (tracksNumbers rows) ≡ 5 * length rows
+unfolding tracksNumbers
+length-tracks-numbers [] = refl
+length-tracks-numbers (row ∷ rows) = let rest = length-tracks-numbers rows in omega (arith, rest)
+
+-- the numbers from the place i on: the first of them and those behind it, or none
+pub numbers-from : (kind : Kind) (xs : List Float) (i : ℕ) → i < length xs
+    → numbersOf kind (drop i xs) ≡ given kind (getD xs i nan) ∷ numbersOf kind (drop (i + 1) xs)
+numbers-from kind xs i h = ap (numbersOf kind) (next xs i nan h)
+
+pub numbers-end : (kind : Kind) (xs : List Float) (i : ℕ) → length xs ≤ i → numbersOf kind (drop i xs) ≡ []
+numbers-end kind xs i h = ap (numbersOf kind) (drop-of-length-le xs h)
+
+pub tracks-from : (rows : List (List Float)) (i : ℕ) → i < length rows
+    → tracksNumbers (drop i rows) ≡ trackNumbers (getD rows i []) ++ tracksNumbers (drop (i + 1) rows)
+unfolding tracksNumbers
+tracks-from rows i h = ap tracksNumbers (next rows i [] h)
+
+pub tracks-end : (rows : List (List Float)) (i : ℕ) → length rows ≤ i → tracksNumbers (drop i rows) ≡ []
+unfolding tracksNumbers
+tracks-end rows i h = ap tracksNumbers (drop-of-length-le rows h)
+
+-- ---- 12: lengths that fit
+
+both-true : (a b : Bool) → (a && b) ≡ true → (a ≡ true) × (b ≡ true)
+both-true true b e = (refl, e)
+both-true false b e = (e, cc)
+
+pub lengths-fit-head : (n m : ℕ) (ms : List ℕ) → lengthsFit n (m ∷ ms) ≡ true → (m ≡ n) × (lengthsFit n ms ≡ true)
+lengths-fit-head n m ms e = let both = both-true (eqb m n) (lengthsFit n ms) e in (eqb-true m n (both .0), both .1)
+
+pub lengths-fit-le : (n : ℕ) (ms : List ℕ) → lengthsFit n ms ≡ true → n ≤ 256
+lengths-fit-le n [] e = leb-true n 256 e
+lengths-fit-le n (m ∷ ms) e = lengths-fit-le n ms (lengths-fit-head n m ms e .1)

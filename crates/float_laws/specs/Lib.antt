@@ -1,0 +1,4 @@
+pub mod Numbers
+pub mod Sum
+pub mod Whole
+pub mod Std

@@ -1,0 +1,2 @@
+pub mod Track
+pub mod Space

@@ -22,7 +22,7 @@ use Rattle.lines.specs.Rule.{completeOf, complete, measuredItems, onFr, inSpan,
 use Rattle.lines.specs.Fits.{MeasuredFits, MeasuredFit}
 use Rattle.lines.specs.Chains.{chain, partAt, chained, ChainFits, Whole}
 use Rattle.lines.proofs.Chains.{chain-next, chained-next}
-use Rattle.chains.specs.Batches.{lastBatch, batchOf, inBatch, chainItems, Gathered}
+use Rattle.chains.specs.Batches.{frBatch, batchOf, inBatch, chainItems, Gathered}
 use Rattle.chains.proofs.Numbers.{lacks, numbered, takes-of-gives, gives-of-batch}
 
 -- ---- Lists that are kept, and lists of lists
@@ -130,14 +130,14 @@ module _ (ts : List Track) (start span : ℕ) where
   at-span k h l Absent b c m f e = nothing (inSpan ts k) (eqb (numbered m true f span) k) m
 
   at-last : span ≤ 256 → (a b c : Amount) (m f : Bool) → some isFr (take span (drop start ts)) ≡ f
-      → cond (eqb (numbered m (lacks a b c) f span) lastBatch) (completeOf start span a b c) [] ≡ keep (onFr ts) (cond m (completeOf start span a b c) [])
+      → cond (eqb (numbered m (lacks a b c) f span) frBatch) (completeOf start span a b c) [] ≡ keep (onFr ts) (cond m (completeOf start span a b c) [])
   unfolding keep
   at-last h (Given x) (Given y) (Given z) true true e = rw e refl
   at-last h (Given x) (Given y) (Given z) true false e = rw (e, ne-eqb span 257 (λ (d : span ≡ 257). omega arith)) refl
   at-last h (Given x) (Given y) (Given z) false f e = refl
-  at-last h (Given x) (Given y) Absent m f e = nothing (onFr ts) (eqb (numbered m true f span) lastBatch) m
-  at-last h (Given x) Absent c m f e = nothing (onFr ts) (eqb (numbered m true f span) lastBatch) m
-  at-last h Absent b c m f e = nothing (onFr ts) (eqb (numbered m true f span) lastBatch) m
+  at-last h (Given x) (Given y) Absent m f e = nothing (onFr ts) (eqb (numbered m true f span) frBatch) m
+  at-last h (Given x) Absent c m f e = nothing (onFr ts) (eqb (numbered m true f span) frBatch) m
+  at-last h Absent b c m f e = nothing (onFr ts) (eqb (numbered m true f span) frBatch) m
 
 module _ (ts : List Track) (i : Item) where
   item-at-span : (k : ℕ) → 0 < k → k ≤ 256 → cond (inBatch ts k i) (complete i) [] ≡ keep (inSpan ts k) (cond (isMeasured ts i) (complete i) [])
@@ -145,7 +145,7 @@ module _ (ts : List Track) (i : Item) where
   item-at-span k h l =
       at-span ts (i .start) (i .span) k h l (amountAt i kind.Minimum) (amountAt i kind.MinContent) (amountAt i kind.MaxContent) (isMeasured ts i) (crossesFr ts i) refl
 
-  item-at-last : i .span ≤ 256 → cond (inBatch ts lastBatch i) (complete i) [] ≡ keep (onFr ts) (cond (isMeasured ts i) (complete i) [])
+  item-at-last : i .span ≤ 256 → cond (inBatch ts frBatch i) (complete i) [] ≡ keep (onFr ts) (cond (isMeasured ts i) (complete i) [])
   unfolding batchOf some
   item-at-last h =
       at-last ts (i .start) (i .span) h (amountAt i kind.Minimum) (amountAt i kind.MinContent) (amountAt i kind.MaxContent) (isMeasured ts i) (crossesFr ts i) refl
@@ -195,11 +195,11 @@ module _ (ts : List Track) (rows : List Row) (heads nexts : List ℕ)
   pub gathered-one : chained rows nexts (getD heads 1 0) ≡ keep (inOneTrack ts) (measuredItems ts (map itemOf rows))
   gathered-one = gathered-span 1 (omega arith) (omega arith)
 
-  pub gathered-last : chained rows nexts (getD heads lastBatch 0) ≡ keep (onFr ts) (measuredItems ts (map itemOf rows))
+  pub gathered-last : chained rows nexts (getD heads frBatch 0) ≡ keep (onFr ts) (measuredItems ts (map itemOf rows))
   unfolding measuredItems
   gathered-last =
-      batch-chain lastBatch (omega arith)
-      ∙ flat-map-tests complete (ItemFits (length ts)) (inBatch ts lastBatch) (isMeasured ts) (onFr ts)
+      batch-chain frBatch (omega arith)
+      ∙ flat-map-tests complete (ItemFits (length ts)) (inBatch ts frBatch) (isMeasured ts) (onFr ts)
       (λ (i : Item) (f : ItemFits (length ts) i). item-at-last ts i (omega (arith, f .0)))
       (map itemOf rows) fits
 

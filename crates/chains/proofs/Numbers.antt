@@ -17,7 +17,7 @@ use Rattle.checks.specs.Rule.{isMeasured, crossesFr, isAbsent, lacksContributio
 use Rattle.checks.specs.Sound.{ItemFits}
 use Rattle.lines.specs.declared.measured.Measured.{Measured}
 use Rattle.lines.specs.Rule.{completeOf, complete}
-use Rattle.chains.specs.Batches.{lastBatch, batchOf}
+use Rattle.chains.specs.Batches.{frBatch, batchOf}
 
 -- ---- An item is complete just where it lacks nothing
 
@@ -60,7 +60,7 @@ module _ (i : Item) where
 
 -- its number by its three tests
 abbrev pub numbered : (measured lacking onFr : Bool) (span : ℕ) → ℕ
-numbered measured lacking onFr span = cond (measured && not lacking) (cond onFr lastBatch span) 0
+numbered measured lacking onFr span = cond (measured && not lacking) (cond onFr frBatch span) 0
 
 module _ (ts : List Track) (i : Item) where
   pub batch-of-lacking : lacksContribution i ≡ true → 0 ≡ batchOf ts i
@@ -75,7 +75,7 @@ module _ (ts : List Track) (i : Item) where
   unfolding batchOf
   batch-of-unmeasured e = rw e refl
 
-  pub batch-of-last : lacksContribution i ≡ false → isMeasured ts i ≡ true → crossesFr ts i ≡ true → lastBatch ≡ batchOf ts i
+  pub batch-of-last : lacksContribution i ≡ false → isMeasured ts i ≡ true → crossesFr ts i ≡ true → frBatch ≡ batchOf ts i
   unfolding batchOf
   batch-of-last e m f = rw (e, m, f) refl
 

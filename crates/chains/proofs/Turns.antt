@@ -6,11 +6,12 @@ use mathlib.Core.List.{List, [], _∷_, map}
 use Prim.Native.Nat.{ℕ, zero, suc, _+_, _-_, _≤_, _<_}
 use native.Mathlib.Omega.{arith}
 use lib.Dec.{eqb}
-use lib.ListN.{length, getD, set, drop, replicate, length-set, length-map, length-replicate, getD-replicate, List·getD-map}
+use lib.ListN.{length, getD, set, drop, replicate, length-set, length-replicate, getD-replicate}
 use lib.Seq.{getD-set-same, getD-set-other, drop-length}
 use borrow.Author.Tests.{lt-ltb, le-ltb, eqb-true, eqb-false, eq-eqb, ne-eqb}
 use Rattle.laws.specs.Tests.{lt-or-ge}
-use Rattle.laws.specs.Lists.{All, keep, all-at}
+use Rattle.laws.specs.Lists.{All, keep}
+use Rattle.laws.specs.Alls.{all-image-at}
 use Rattle.laws.specs.Walk.{next}
 use Rattle.kinds.specs.Kinds.{Row, itemOf}
 use Rattle.kinds.specs.declared.track.Track.{Track}
@@ -163,11 +164,8 @@ module _ (n : ℕ) (ts : List Track) (rows : List Row) (heads nexts : List ℕ) 
   pub number-lt : k < 258
   number-lt = rw (number, read) (batch-of-lt ts (itemOf (getD rows (i - 1) [])) n few own)
     where
-      inside : (i - 1) < length (map itemOf rows)
-      inside = rw (length-map rows itemOf) (omega (arith, c .within))
-
       own : ItemFits n (itemOf (getD rows (i - 1) []))
-      own = rw (List·getD-map itemOf rows (i - 1) []) at (all-at (ItemFits n) (map itemOf rows) (i - 1) (itemOf []) fits inside)
+      own = all-image-at (ItemFits n) itemOf rows (i - 1) [] fits (omega (arith, c .within))
 
   pub chained-before : Chained ts rows (set heads k (i - 1)) (set nexts (i - 1) (getD heads k 0)) (i - 1)
   chained-before = chained-turn ts rows heads nexts (i - 1) k (number ∙ ap (batchOf ts) read) number-lt (rw back c)

@@ -13,12 +13,12 @@ use Rattle.kinds.specs.declared.item.Item.{Item}
 use Rattle.checks.specs.Rule.{isMeasured, crossesFr, lacksContribution}
 use Rattle.lines.specs.Chains.{Rising, chain}
 
--- past every span of a board
-abbrev pub lastBatch : ℕ
-lastBatch = 257
+-- of the items on an fr track, past every span of a board
+abbrev pub frBatch : ℕ
+frBatch = 257
 
 unfoldable pub batchOf : List Track → Item → ℕ
-batchOf ts i = cond (isMeasured ts i && not (lacksContribution i)) (cond (crossesFr ts i) lastBatch (i .span)) 0
+batchOf ts i = cond (isMeasured ts i && not (lacksContribution i)) (cond (crossesFr ts i) frBatch (i .span)) 0
 
 abbrev pub inBatch : List Track → ℕ → Item → Bool
 inBatch ts k i = eqb (batchOf ts i) k

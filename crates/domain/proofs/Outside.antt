@@ -73,6 +73,11 @@ pub outside-then : (k j : ℕ) (x : Number) (ys : List Number) {f g r : Finding}
     → f ≡ outsideFrom k (x ∷ []) → g ≡ outsideFrom j ys → j ≡ k + 1 → r ≡ outsideFrom k (x ∷ ys)
 outside-then k j x ys e here behind n = e ∙ rw (here, behind, n) (sym (outside-append k (x ∷ []) ys))
 
+-- the same of two runs of numbers
+pub outside-both : (k j : ℕ) (xs ys : List Number) {f g r : Finding} → r ≡ first f g → f ≡ outsideFrom k xs → g ≡ outsideFrom j ys → j ≡ k + length xs → r ≡ outsideFrom k (xs ++ ys)
+outside-both k j xs ys is here there next =
+    is ∙ (λ i. first (here i) ((there ∙ ap (λ (m : ℕ). outsideFrom m ys) next) i)) ∙ sym (outside-append k xs ys)
+
 -- The code walks numbers and has come to those from k on, of which the first ones are looked at now: f is what it finds in
 -- them, and b that it is a refusal.
 module _ (k : ℕ) {all : List Number} (front rest : List Number) (parted : all ≡ front ++ rest) {whole : Finding} (walk : outsideFrom k all ≡ whole) (f : Fault) (here : findingOf f ≡ outsideFrom k front) {b : Bool} (is : b ≡ isFound f) where

@@ -1,13 +1,12 @@
 -- The fr of a board is bounded: its dots by the space, and what they are divided by from both sides. Assumes nothing.
-use mathlib.Core.Bool.{Bool, true, false, cond, _||_}
+use mathlib.Core.Bool.{Bool, true, false, cond}
 use mathlib.Core.List.{List, [], _∷_, map}
 use Prim.Native.Nat.{ℕ, zero, suc, _*_, _≤_, max}
 use native.Mathlib.Nat.{le-trans}
 use native.Mathlib.Omega.{arith}
 use lib.Dec.{ltb}
-use lib.ListN.{length, drop, length-take, length-drop}
+use lib.ListN.{length, length-take, length-drop}
 use Rattle.laws.specs.Lists.{some, keep, inTurn, All}
-use Rattle.laws.specs.Sums.{sum}
 use Rattle.fill.specs.Rule.{mostTracks, mostDots}
 use Rattle.kinds.specs.Kinds.{constraintNumber}
 use Rattle.kinds.specs.declared.space.Constraint.{Constraint}
@@ -17,13 +16,14 @@ use Rattle.lines.specs.declared.line.Line.{Line}
 use Rattle.lines.specs.declared.measured.Measured.{Measured}
 use Rattle.lines.specs.declared.fr.Fr.{Fr}
 use Rattle.lines.specs.Rule.{number, flexOf, bases, searchOver, baseFr, basesFr, itemFr, spanned}
-use Rattle.lines.specs.Fr.{frOf, noFr, largerFr, Flex, openFactor, frNow, short, hold, search}
+use Rattle.lines.specs.Fr.{frOf, noFr, largerFr, Flex, frNow, short, hold, search}
 use Rattle.lines.specs.Fits.{LineFits, LinesFit, MeasuredFits, MeasuredFit}
+use Rattle.lines.proofs.Slices.{slice-fits}
 use Rattle.flexible.specs.Flexes.{heldFirst, batchFr, frOver, FrBounds}
 use Rattle.flexible.proofs.Sizes.{factor-fits, open-factors-le}
 use Rattle.flexible.proofs.Turns.{flexes-first}
 use Rattle.flexible.proofs.Lines.{frOnly}
-use Rattle.flexible.proofs.Spans.{all-take, all-drop}
+use Rattle.flexible.proofs.Growth.{factorsOf, factors-hold-le}
 
 -- what both have, either has
 cond-has : {A : Type 0} (P : A → Type 0) (b : Bool) (x y : A) → P x → P y → P (cond b x y)
@@ -31,21 +31,6 @@ cond-has P true x y p q = p
 cond-has P false x y p q = q
 
 -- ---- A search
-
-abbrev factorsOf : List Flex → ℕ
-factorsOf ts = sum (map openFactor ts)
-
--- a hold opens no factor
-open-factor-hold : (s h : Bool) (factor : ℕ) → cond (s || h) 0 factor ≤ cond h 0 factor
-open-factor-hold true true factor = omega arith
-open-factor-hold true false factor = omega arith
-open-factor-hold false true factor = omega arith
-open-factor-hold false false factor = omega arith
-
-pub factors-hold-le : (fr : Fr) (ts : List Flex) → factorsOf (map (hold fr) ts) ≤ factorsOf ts
-unfolding sum
-factors-hold-le fr [] = omega arith
-factors-hold-le fr (t ∷ ts) = omega (arith, open-factor-hold (short fr t) (t .held) (t .factor), factors-hold-le fr ts)
 
 -- what the search gives is bounded by what it starts from
 record SearchBounds (space factors : ℕ) (fr : Fr) : Type 0 where
@@ -109,7 +94,7 @@ module _ (ls : List Line) (t : length ls ≤ mostTracks) (f : LinesFit ls) where
       let c = m .max-content in
       let l : length (spanned i ls) ≤ mostTracks = simp (length-take, length-drop) (omega arith) in
       larger-bounds (searchOver (i .«max_content») (spanned i ls)) fr
-      (search-over-bounds (i .«max_content») (spanned i ls) (omega arith) l (all-take LineFits (i .span) (drop (i .start) ls) (all-drop LineFits (i .start) ls f))) p
+      (search-over-bounds (i .«max_content») (spanned i ls) (omega arith) l (slice-fits (i .start) (i .span) ls f)) p
 
   items-bounds : (n : ℕ) (batch : List Measured) (fr : Fr) → MeasuredFit n batch → FrBounds fr → FrBounds (inTurn (itemFr ls) batch fr)
   unfolding All inTurn

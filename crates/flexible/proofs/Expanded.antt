@@ -6,6 +6,7 @@ use Prim.Native.Nat.{ℕ, _*_, _/_, _≤_, max}
 use native.Mathlib.Omega.{arith}
 use lib.ListN.{length, length-map}
 use Rattle.laws.specs.Lists.{All}
+use Rattle.laws.specs.Alls.{all-image}
 use Rattle.checks.specs.Rule.{isFr}
 use Rattle.lines.specs.declared.line.Line.{Line}
 use Rattle.lines.specs.declared.fr.Fr.{Fr}
@@ -24,9 +25,8 @@ module _ (fr : Fr) where
       go false = let b = k .base in omega arith
 
   pub expand-base-le : (ls : List Line) → FrFits fr → LinesFit ls → All (λ (l : Line). l .base ≤ mostGrown) (expand fr ls)
-  unfolding All expand
-  expand-base-le [] f a = tt
-  expand-base-le (l ∷ ls) f a = (flexed-base-le l f (a .0), expand-base-le ls f (a .1))
+  unfolding expand
+  expand-base-le ls f a = all-image (λ (l : Line). l .base ≤ mostGrown) (flexed fr) LineFits (λ l k. flexed-base-le l f k) ls a
 
   -- what is told of each line without its base stays
   expand-keeps : {A : Type 0} (told : Line → A) → ((l : Line) (base : ℕ) → told (record { track = l .track; base = base; limit = l .limit; grows = l .grows }) ≡ told l)

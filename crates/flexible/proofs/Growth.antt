@@ -47,7 +47,7 @@ held-one fr t = go (t .held) (ltb (t .factor * fr .dots) (t .size * fr .per)) re
 abbrev sizesOf : List Flex → ℕ
 sizesOf ts = sum (map heldSize ts)
 
-abbrev factorsOf : List Flex → ℕ
+abbrev pub factorsOf : List Flex → ℕ
 factorsOf ts = sum (map openFactor ts)
 
 record HeldAll (fr : Fr) (ts : List Flex) : Type 0 where
@@ -70,6 +70,10 @@ held-all fr (t ∷ ts) =
       factors = omega (arith, a .factors, b .factors);
       share = omega (arith, a .share, b .share, add-mul (newFactor fr t) (b .factor) (fr .dots), add-mul (newSize fr t) (b .size) (fr .per));
     }
+
+-- a hold opens no factor
+pub factors-hold-le : (fr : Fr) (ts : List Flex) → factorsOf (map (hold fr) ts) ≤ factorsOf ts
+factors-hold-le fr ts = let a = held-all fr ts in let f = a .factors in omega arith
 
 -- ---- Each restart gives a fraction no larger
 

@@ -5,7 +5,7 @@ pub mod Walks
 pub mod Turns
 pub mod Lines
 pub mod Spans
+pub mod Growth
 pub mod Bounds
 pub mod Rule
-pub mod Growth
 pub mod Expanded

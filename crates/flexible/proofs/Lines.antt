@@ -3,9 +3,10 @@ use mathlib.Core.Path.{_≡_, refl, sym, ap, ap₂, subst, _∙_}
 use mathlib.Core.Bool.{Bool, true, false, cond}
 use mathlib.Core.List.{List, [], _∷_, _++_}
 use Prim.Native.Nat.{ℕ, _+_, _*_, _/_, _≤_, _<_, max}
-use lib.ListN.{length, getD, set, take, drop, length-map, drop-of-length-le, List·getD-map}
-use Rattle.laws.specs.Lists.{inTurn, keep, All, all-at, all-set, map-set}
-use Rattle.laws.specs.Walk.{next, store-step, store-end}
+use lib.ListN.{length, getD, set, take, drop, drop-of-length-le}
+use Rattle.laws.specs.Lists.{inTurn, keep, All, all-set, map-set}
+use Rattle.laws.specs.Alls.{all-image-at}
+use Rattle.laws.specs.Walk.{next}
 use Rattle.kinds.specs.Kinds.{Row}
 use Rattle.checks.specs.Rule.{isFr}
 use Rattle.lines.specs.declared.line.Line.{Line}
@@ -13,6 +14,7 @@ use Rattle.lines.specs.declared.fr.Fr.{Fr}
 use Rattle.lines.specs.Rule.{line, number, baseFr, flexed, expand}
 use Rattle.lines.specs.Fr.{frOf, largerFr}
 use Rattle.lines.specs.Rows.{lineOf, linesOf}
+use Rattle.lines.proofs.Walks.{map-step, seen-end}
 use Rattle.flexible.specs.Flexes.{lineFr, flexedBase, FactorFits}
 
 -- ---- By whether a line is fr
@@ -67,18 +69,15 @@ module _ (fr : Fr) (rows : List Row) (i : ℕ) (w : List Line) where
       → take i (linesOf rows) ++ expand fr (drop i (linesOf rows)) ≡ w
       → take (i + 1) (linesOf (set rows i v)) ++ expand fr (drop (i + 1) (linesOf (set rows i v))) ≡ w
   unfolding expand
-  expand-step v h e p =
-      rw (map-set lineOf rows i v)
-      (store-step (linesOf rows) i (expand fr) (expand fr) (lineOf v) (lineOf []) w (rw (length-map rows lineOf) h)
-      (ap (_∷ expand fr (drop (i + 1) (linesOf rows))) (ap (flexed fr) (List·getD-map lineOf rows i []) ∙ sym e)) p)
+  expand-step v h e p = map-step lineOf rows i (flexed fr) v [] w h e p
 
   pub expand-end : length rows ≤ i → take i (linesOf rows) ++ expand fr (drop i (linesOf rows)) ≡ w → linesOf rows ≡ w
   unfolding expand
-  expand-end h p = store-end (linesOf rows) i (expand fr) w (rw (length-map rows lineOf) h) refl p
+  expand-end h p = seen-end lineOf rows i (expand fr) w h refl p
 
 module _ (rows : List Row) (i : ℕ) (fits : All FactorFits (linesOf rows)) (h : i < length rows) where
   pub factor-here : FactorFits (lineOf (getD rows i []))
-  factor-here = rw (List·getD-map lineOf rows i []) at (all-at FactorFits (linesOf rows) i (lineOf []) fits (rw (length-map rows lineOf) h))
+  factor-here = all-image-at FactorFits lineOf rows i [] fits h
 
   pub factors-kept : (fr : Fr) (v : Row) → lineOf v ≡ flexed fr (lineOf (getD rows i [])) → All FactorFits (linesOf (set rows i v))
   factors-kept fr v e = rw (map-set lineOf rows i v) (all-set FactorFits (linesOf rows) i (lineOf v) fits (subst FactorFits (sym e) factor-here))

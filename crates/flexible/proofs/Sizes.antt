@@ -6,13 +6,13 @@ use native.Mathlib.Nat.{le-trans}
 use native.Mathlib.Omega.{arith}
 use lib.ListN.{length, length-map}
 use Rattle.laws.specs.Lists.{All}
+use Rattle.laws.specs.Alls.{all-map}
 use Rattle.laws.specs.Sums.{sum}
 use Rattle.kinds.specs.Kinds.{Row}
 use Rattle.kinds.specs.declared.track.Maximum.{Maximum}
 use Rattle.kinds.specs.declared.track.Maximum.the-variants as maximum
 use Rattle.checks.specs.Sound.{mostOf}
 use Rattle.lines.specs.declared.line.Line.{Line}
-use Rattle.lines.specs.Rule.{number}
 use Rattle.lines.specs.Fr.{heldSize, openFactor}
 use Rattle.lines.specs.Rows.{lineOf, linesOf}
 use Rattle.lines.specs.Fits.{LineFits, LinesFit}
@@ -31,9 +31,7 @@ pub factor-fits : (l : Line) → LineFits l → FactorFits l
 factor-fits l f = le-trans (f .track .1) (most-of-le (l .track .maximum))
 
 pub factors-fit : (ls : List Line) → LinesFit ls → All FactorFits ls
-unfolding All
-factors-fit [] a = tt
-factors-fit (l ∷ ls) a = (factor-fits l (a .0), factors-fit ls (a .1))
+factors-fit ls a = all-map LineFits FactorFits factor-fits ls a
 
 held-size-le : (l : Line) (h : Bool) → LineFits l → heldSize (flexAt l h) ≤ 65535
 held-size-le l true f = f .base

@@ -1,6 +1,6 @@
 -- A turn and the end of each walk over the lines, said of lists. Assumes nothing.
 use mathlib.Core.Path.{_≡_, sym, ap, _∙_}
-use mathlib.Core.Bool.{Bool, true, false, not, _||_}
+use mathlib.Core.Bool.{Bool, true, false, _||_, or-false}
 use mathlib.Core.List.{List, [], _∷_, map}
 use Prim.Native.Nat.{ℕ, _+_, _*_, _≤_, _<_}
 use lib.Dec.{ltb}
@@ -86,10 +86,6 @@ or-turn true false t w e = e
 or-turn false true t w e = e
 or-turn false false t w e = e
 
-or-end : (a w : Bool) → (a || false) ≡ w → a ≡ w
-or-end true w e = e
-or-end false w e = e
-
 pub some-step : (fr : Fr) (rows : List Row) (held : List Bool) (i : ℕ) (a s t v w : Bool) → i < length rows → i < length held
     → s ≡ short fr (flexAt (lineOf (getD rows i [])) (getD held i false)) → t ≡ (s || a)
     → (a || some (short fr) (flexesFrom rows held i)) ≡ w → (t || some (short fr) (flexesFrom rows (set held i v) (i + 1))) ≡ w
@@ -99,4 +95,4 @@ some-step fr rows held i a s t v w h k e f p =
 
 pub some-end : (fr : Fr) (rows : List Row) (held : List Bool) (i : ℕ) (a w : Bool) → length rows ≤ i → (a || some (short fr) (flexesFrom rows held i)) ≡ w → a ≡ w
 unfolding some
-some-end fr rows held i a w h p = or-end a w (rw (flexes-end rows held i h) at p)
+some-end fr rows held i a w h p = rw (flexes-end rows held i h, or-false a) at p

@@ -28,6 +28,17 @@ rowOf t =
     ∷ t .«item_incurred_increase»
     ∷ []
 
+-- the track with another base size and incurred increase
+abbrev pub withSizes : Track → Float → Float → Track
+withSizes t base incurred = record {
+  «base_size» = base;
+  «growth_limit» = t .«growth_limit»;
+  «base_size_planned_increase» = t .«base_size_planned_increase»;
+  «growth_limit_planned_increase» = t .«growth_limit_planned_increase»;
+  «item_incurred_increase» = incurred;
+  «infinitely_growable» = t .«infinitely_growable»;
+}
+
 -- ---- The flushes
 
 abbrev pub flushBase : Track → Track

@@ -10,3 +10,5 @@ pub mod Lists
 pub mod Alls
 pub mod Spans
 pub mod Turns
+pub mod Zips
+pub mod Store

@@ -2,10 +2,11 @@
 use mathlib.Core.Path.{_≡_, refl, ap}
 use Prim.Native.Nat.{ℕ, zero, suc, _+_, _<_, max}
 use native.Mathlib.Nat.{le-of-suc-le-suc, not-suc-le-zero}
+use native.Mathlib.Omega.{arith}
 use mathlib.Core.Bool.{Bool, false, true, cond, _&&_, _||_}
-use mathlib.Core.List.{List, [], _∷_, map}
+use mathlib.Core.List.{List, [], _∷_, _++_, map, zipWith}
 use lib.Dec.{eqb}
-use lib.ListN.{length, getD, set}
+use lib.ListN.{length, getD, set, take, drop}
 
 -- n is one of these
 unfoldable pub among : List ℕ → ℕ → Bool
@@ -81,3 +82,25 @@ module _ {A B : Type 0} (f : A → B) where
   map-set [] i v = refl
   map-set (x ∷ xs) zero v = refl
   map-set (x ∷ xs) (suc i) v = ap (f x ∷_) (map-set xs i v)
+
+  -- a part seen through f
+  pub map-take : (n : ℕ) (xs : List A) → map f (take n xs) ≡ take n (map f xs)
+  map-take zero xs = refl
+  map-take (suc n) [] = refl
+  map-take (suc n) (x ∷ xs) = ap (f x ∷_) (map-take n xs)
+
+  pub map-drop : (n : ℕ) (xs : List A) → map f (drop n xs) ≡ drop n (map f xs)
+  map-drop zero xs = refl
+  map-drop (suc n) [] = refl
+  map-drop (suc n) (x ∷ xs) = map-drop n xs
+
+pub length-zip : {A B C : Type 0} (f : A → B → C) (xs : List A) (ys : List B) → length ys ≡ length xs → length (zipWith f xs ys) ≡ length xs
+unfolding zipWith
+length-zip f [] ys e = refl
+length-zip f (x ∷ xs) [] e = absurd (omega arith)
+length-zip f (x ∷ xs) (y ∷ ys) e = ap suc (length-zip f xs ys (omega arith))
+
+pub in-turn-append : {A S : Type 0} (f : A → S → S) (xs ys : List A) (s : S) → inTurn f (xs ++ ys) s ≡ inTurn f ys (inTurn f xs s)
+unfolding inTurn
+in-turn-append f [] ys s = refl
+in-turn-append f (x ∷ xs) ys s = in-turn-append f xs ys (f x s)

@@ -1,5 +1,5 @@
 -- Steps told their number, one after another: what a loop over places does. Assumes nothing.
-use mathlib.Core.Path.{_≡_, refl}
+use mathlib.Core.Path.{_≡_, refl, _∙_, ap}
 use mathlib.Core.Logic.{⊎-elim}
 use mathlib.Core.Bool.{Bool, true, false, _&&_, and-false}
 use Prim.Native.Nat.{ℕ, zero, suc, _+_, _≤_, _<_}
@@ -22,6 +22,13 @@ module _ {S : Type 0} (step : ℕ → S → S) where
   pub turns-next : (n : ℕ) (s : S) → step n (turns step n s) ≡ turns step (n + 1) s
   unfolding turns
   turns-next n s = rw add-one refl
+
+  -- what a loop holds after i rounds is i turns: one round more, and the last
+  pub turns-round : (i : ℕ) (s now after : S) → after ≡ step i now → now ≡ turns step i s → after ≡ turns step (i + 1) s
+  turns-round i s now after e p = e ∙ ap (step i) p ∙ turns-next i s
+
+  pub turns-end : (i n : ℕ) (s now : S) → i ≡ n → now ≡ turns step i s → now ≡ turns step n s
+  turns-end i n s now e p = p ∙ ap (λ (k : ℕ). turns step k s) e
 
 module _ (holds : ℕ → Bool) where
   -- it holds at each place up to but not including n

@@ -1,7 +1,7 @@
 -- What a letter makes of one line, case by case: the room of a limit, a limit that has grown, and who takes what remains.
 -- Assumes nothing.
 use mathlib.Core.Path.{_≡_, refl}
-use mathlib.Core.Bool.{Bool, true, false, cond, not, _&&_, _||_}
+use mathlib.Core.Bool.{Bool, true, false, cond, not, _&&_, _||_, and-true, and-false, or-true, or-false}
 use Prim.Native.Nat.{ℕ, _+_, _≤_, _<_}
 use native.Mathlib.Omega.{arith}
 use borrow.Author.Tests.{lt-ltb}
@@ -17,41 +17,25 @@ pub room-of-growable : (limit : Limit) (r : Room) → r ≡ cond (isNone limit |
 room-of-growable None r = refl
 room-of-growable (UpTo n) r = refl
 
-and-false : (b : Bool) → false ≡ (b && false)
-and-false true = refl
-and-false false = refl
-
-and-true : (b : Bool) → b ≡ (b && true)
-and-true true = refl
-and-true false = refl
-
-or-false : (b : Bool) → b ≡ (b || false)
-or-false true = refl
-or-false false = refl
-
-or-true : (b : Bool) → true ≡ (b || true)
-or-true true = refl
-or-true false = refl
-
 -- where some take what remains, those; else all affected
 pub rest-of-narrow : (affected takes narrow : Bool) → narrow ≡ true → (affected && takes) ≡ (affected && (takes || not narrow))
-rest-of-narrow affected takes narrow e = rw (e, ← or-false takes) refl
+rest-of-narrow affected takes narrow e = rw (e, or-false takes) refl
 
 pub rest-of-all : (affected takes narrow : Bool) → narrow ≡ false → affected ≡ (affected && (takes || not narrow))
-rest-of-all affected takes narrow e = rw (e, ← or-true takes, ← and-true affected) refl
+rest-of-all affected takes narrow e = rw (e, or-true takes, and-true affected) refl
 
 -- a limit that grows, of the line l read from the row of k
 module _ (marks : Bool) (l k : Line) (increase : ℕ) (same : l ≡ k) where
   pub grown-none-zero : l .limit ≡ None → increase ≡ 0 → line (k .track) (l .base) None false ≡ grownLimit marks k increase
-  grown-none-zero e z = rw (← same, e, z, ← and-false marks) refl
+  grown-none-zero e z = rw (← same, e, z, and-false marks) refl
 
   pub grown-none-more : l .limit ≡ None → (increase ≡ 0 → ⊥) → line (k .track) (l .base) (UpTo (l .base + increase)) marks ≡ grownLimit marks k increase
   grown-none-more e z =
       let p : 0 < increase = omega arith in
-      rw (← same, e, lt-ltb 0 increase p, ← and-true marks) refl
+      rw (← same, e, lt-ltb 0 increase p, and-true marks) refl
 
   pub grown-some : (n : ℕ) → l .limit ≡ UpTo n → line (k .track) (l .base) (UpTo (n + increase)) false ≡ grownLimit marks k increase
-  grown-some n e = rw (← same, e, ← and-false marks) refl
+  grown-some n e = rw (← same, e, and-false marks) refl
 
 -- and what it asks of the sum
 module _ (l k : Line) (increase : ℕ) (same : l ≡ k) where

@@ -4,42 +4,36 @@ use mathlib.Core.Path.{_≡_, refl, sym, ap, _∙_}
 use mathlib.Core.Logic.{⊎-elim}
 use mathlib.Core.Bool.{Bool, true, false, cond}
 use mathlib.Core.List.{List, [], _∷_, map, zipWith}
-use Prim.Native.Nat.{ℕ, zero, suc, _+_, _-_, _≤_, _<_, max, zero-le}
+use Prim.Native.Nat.{ℕ, zero, suc, _+_, _-_, _≤_, _<_, zero-le}
 use native.Mathlib.Nat.{le-trans, le-of-suc-le-suc}
 use native.Mathlib.Omega.{arith}
 use lib.Dec.{ltb}
 use lib.ListN.{length, getD, drop, replicate, length-take, length-replicate, length-map, List·getD-map, List·getD-eq-default}
 use lib.Seq.{getD-take, getD-drop}
 use Rattle.laws.specs.Tests.{lt-or-ge}
-use Rattle.laws.specs.Lists.{larger, largerFrom, inTurn, All, all-at}
+use Rattle.laws.specs.Lists.{larger, largerFrom, inTurn, All, all-at, length-zip}
 use Rattle.laws.specs.Sums.{sum, getD-le-sum}
 use Rattle.fill.specs.Rule.{gainsOf, fill}
 use Rattle.fill.proofs.Tied.{Fresh}
 use Rattle.fill.proofs.Fresh.{gain-add-left-le, length-gains}
 use Rattle.kinds.specs.Kinds.{Row}
 use Rattle.kinds.specs.declared.space.Constraint.{Constraint}
-use Rattle.kinds.specs.declared.space.Constraint.the-variants.{Definite, MinContent, MaxContent}
 use Rattle.checks.specs.Rule.{mostSize, mostContribution}
 use Rattle.lines.specs.declared.limit.Limit.{Limit}
 use Rattle.lines.specs.declared.limit.Limit.the-variants.{None, UpTo}
 use Rattle.lines.specs.declared.line.Line.{Line}
 use Rattle.lines.specs.declared.measured.Measured.{Measured}
-use Rattle.lines.specs.Rule.{cut, orBase, atLeast, limited, maxima, forAuto, limitPlus, firstTrack, restTrack, shares, extraOf, gainsBy, increasedBy, increases, raise, spanned}
+use Rattle.lines.specs.Rule.{orBase, limitPlus, firstTrack, restTrack, shares, extraOf, gainsBy, increasedBy, increases, raise, spanned}
 use Rattle.lines.specs.Rule as rule
 use Rattle.lines.specs.Rows.{limitNumber, lineOf, linesOf}
 use Rattle.lines.specs.Fits.{LineFits, LinesFit, MeasuredFits, MeasuredFit}
+use Rattle.lines.proofs.Fits.{at-least-le, limit-size-le, limited-le, for-auto-le}
 use Rattle.letters.specs.declared.letter.Letter.{Letter}
 use Rattle.letters.specs.declared.letter.Letter.the-variants.{A, B, C, D, E, F}
 use Rattle.letters.specs.Letters.{letterOf, most}
-use Rattle.letters.proofs.Shared.{firstFill, first-fresh, zip-fresh}
+use Rattle.letters.proofs.Shared.{firstFill, first-fresh, zip-fresh, getD-zeros}
 
 -- ---- the gains of an item
-
-length-zip : {X Y Z : Type 0} (f : X → Y → Z) (xs : List X) (ys : List Y) → length xs ≡ length ys → length (zipWith f xs ys) ≡ length xs
-unfolding zipWith
-length-zip f [] ys e = refl
-length-zip f (x ∷ xs) [] e = absurd (omega arith)
-length-zip f (x ∷ xs) (y ∷ ys) e = ap suc (length-zip f xs ys (omega arith))
 
 getD-zip-add-le : (xs ys : List ℕ) (i : ℕ) → getD (zipWith _+_ xs ys) i 0 ≤ getD xs i 0 + getD ys i 0
 unfolding zipWith
@@ -59,11 +53,11 @@ module _ (letter : rule.Letter) (extra : ℕ) (on : List Line) where
   length-first = length-gains extra (map (firstTrack letter) on) (first-fresh letter on) ∙ length-map on (firstTrack letter)
 
   length-rest : length (gainsOf (fill (firstFill letter extra on .left) (zipWith (restTrack letter on) on firstGains) .tracks)) ≡ length on
-  length-rest = length-gains (firstFill letter extra on .left) (zipWith (restTrack letter on) on firstGains) rest-fresh ∙ length-zip (restTrack letter on) on firstGains (sym length-first)
+  length-rest = length-gains (firstFill letter extra on .left) (zipWith (restTrack letter on) on firstGains) rest-fresh ∙ length-zip (restTrack letter on) on firstGains length-first
 
   pub length-shares : length (shares letter extra on) ≡ length on
   unfolding shares
-  length-shares = length-zip _+_ firstGains (gainsOf (fill (firstFill letter extra on .left) (zipWith (restTrack letter on) on firstGains) .tracks)) (length-first ∙ sym length-rest) ∙ length-first
+  length-shares = length-zip _+_ firstGains (gainsOf (fill (firstFill letter extra on .left) (zipWith (restTrack letter on) on firstGains) .tracks)) (length-rest ∙ sym length-first) ∙ length-first
 
   -- no line gains more than there is
   pub shares-le : (i : ℕ) → getD (shares letter extra on) i 0 ≤ extra
@@ -118,29 +112,14 @@ length-increases letter c batch ls = length-in-turn letter c ls batch (replicate
 
 pub length-raise : (letter : rule.Letter) (c : Constraint) (batch : List Measured) (ls : List Line) → length (raise c batch letter ls) ≡ length ls
 unfolding raise
-length-raise letter c batch ls = length-zip (letter .grown) ls (increases letter c batch ls) (sym (length-increases letter c batch ls))
+length-raise letter c batch ls = length-zip (letter .grown) ls (increases letter c batch ls) (length-increases letter c batch ls)
 
 -- ---- a contribution is within its limit, and so is what it is measured against
 
-cut-le : (m : Limit) (n : ℕ) → cut m n ≤ n
-cut-le None n = omega arith
-cut-le (UpTo m) n = omega arith
-
-limited-le : (n : ℕ) (i : Measured) (ls : List Line) → n ≤ mostContribution → i .minimum ≤ mostContribution → limited n i ls ≤ mostContribution
-limited-le n i ls h m = let k = cut-le (maxima ls) n in max-le (i .minimum) (cut (maxima ls) n) mostContribution m (le-trans k h)
-  where
-    max-le : (a b k : ℕ) → a ≤ k → b ≤ k → max a b ≤ k
-    max-le a b k p q = omega arith
-
-for-auto-le : {n : ℕ} (c : Constraint) (i : Measured) (ls : List Line) → MeasuredFits n i → forAuto c i ls ≤ mostContribution
-for-auto-le (Definite d) i ls f = f .minimum
-for-auto-le MinContent i ls f = limited-le (i .«min_content») i ls (f .min-content) (f .minimum)
-for-auto-le MaxContent i ls f = limited-le (i .«min_content») i ls (f .min-content) (f .minimum)
-
 contribution-le : {n : ℕ} (letter : Letter) (c : Constraint) (i : Measured) (ls : List Line) → MeasuredFits n i → letterOf letter .contribution c i ls ≤ mostContribution
-contribution-le A c i ls f = for-auto-le c i ls f
+contribution-le A c i ls f = for-auto-le c _ i ls f
 contribution-le B c i ls f = f .min-content
-contribution-le C c i ls f = limited-le (i .«max_content») i ls (f .max-content) (f .minimum)
+contribution-le C c i ls f = limited-le (i .«max_content») mostContribution i ls (f .minimum) (f .max-content)
 contribution-le D c i ls f = f .max-content
 contribution-le E c i ls f = f .min-content
 contribution-le F c i ls f = f .max-content
@@ -148,17 +127,13 @@ contribution-le F c i ls f = f .max-content
 pub extra-le : {n : ℕ} (letter : Letter) (c : Constraint) (i : Measured) (on : List Line) → MeasuredFits n i → extraOf (letterOf letter) c i on ≤ mostContribution
 extra-le letter c i on f = let h = contribution-le letter c i on f in omega arith
 
-or-base-le : (limit : Limit) (base k : ℕ) → limitNumber limit ≤ k → base ≤ k → orBase limit base ≤ k
-or-base-le None base k h b = b
-or-base-le (UpTo n) base k h b = h
-
 pub present-le : (letter : Letter) (l : Line) → LineFits l → letterOf letter .present l ≤ mostSize
 present-le A l f = f .base
 present-le B l f = f .base
 present-le C l f = f .base
 present-le D l f = f .base
-present-le E l f = or-base-le (l .limit) (l .base) mostSize (f .limit) (f .base)
-present-le F l f = or-base-le (l .limit) (l .base) mostSize (f .limit) (f .base)
+present-le E l f = limit-size-le l f
+present-le F l f = limit-size-le l f
 
 -- ---- no increase takes a line over the limit
 
@@ -213,14 +188,9 @@ module _ (letter : Letter) (c : Constraint) (ls : List Line) (d : Line) where
   unfolding increases
   increases-fit n batch fl fb k h =
       let p = present-le letter (getD ls k d) (all-at LineFits ls k d fl h) in
-      let z : getD (replicate (length ls) 0) k 0 ≤ above k = zeros (length ls) k (above k) in
+      let z : getD (replicate (length ls) 0) k 0 ≤ above k = rw (getD-zeros (length ls) k) zero-le in
       let q = in-turn-fits n batch (replicate (length ls) 0) k fb z in
       omega arith
-    where
-      zeros : (n k m : ℕ) → getD (replicate n 0) k 0 ≤ m
-      zeros zero k m = zero-le
-      zeros (suc n) zero m = zero-le
-      zeros (suc n) (suc k) m = zeros n k m
 
 -- as `apply` asks it, of rows
 pub increases-fit-rows : (letter : Letter) (c : Constraint) (n : ℕ) (batch : List Measured) (rows : List Row) → LinesFit (linesOf rows) → MeasuredFit n batch
@@ -230,10 +200,6 @@ increases-fit-rows letter c n batch rows fl fb i h =
     le-trans (rw (List·getD-map lineOf rows i []) at k) (omega arith)
 
 -- ---- a raised line is within the limit
-
-at-least-le : (base k : ℕ) (limit : Limit) → base ≤ k → limitNumber limit ≤ k → limitNumber (atLeast base limit) ≤ k
-at-least-le base k None b h = h
-at-least-le base k (UpTo n) b h = omega arith
 
 limit-plus-le : (base increase k : ℕ) (limit : Limit) → orBase limit base + increase ≤ k → limitNumber (limitPlus base increase limit) ≤ k
 limit-plus-le base increase k None h = go (ltb 0 increase)

@@ -7,6 +7,7 @@ use native.Mathlib.Nat.{zero-add}
 use native.Mathlib.Omega.{arith}
 use lib.ListN.{length, getD, replicate, length-map}
 use Rattle.laws.specs.Lists.{some, All}
+use Rattle.laws.specs.Alls.{image-all}
 use Rattle.fill.specs.Rule.{mostDots, gainsOf, Fill, fill}
 use Rattle.fill.specs.Rule as fill
 use Rattle.fill.specs.Rests.{caps, lost, stateOf, fillRests}
@@ -30,11 +31,6 @@ unfolding zipWith All
 zip-fresh f z [] gains = tt
 zip-fresh f z (l ∷ ls) [] = tt
 zip-fresh f z (l ∷ ls) (g ∷ gains) = (z l g, zip-fresh f z ls gains)
-
-pub map-fresh : (f : Line → fill.Track) → ((l : Line) → f l .gain ≡ 0) → (ls : List Line) → Fresh (map f ls)
-unfolding All
-map-fresh f z [] = tt
-map-fresh f z (l ∷ ls) = (z l, map-fresh f z ls)
 
 share-gain : (share : Share) (l : Line) (g : ℕ) → shareTrack share l g .gain ≡ 0
 share-gain (First letter) l g = refl
@@ -77,7 +73,7 @@ module _ (share : Share) (dots : ℕ) (ls : List Line) (gains rs xs : List ℕ) 
 
 -- ---- both shares of a letter
 
-getD-zeros : (n i : ℕ) → _≡_ {A = ℕ} (getD (replicate n 0) i 0) 0
+pub getD-zeros : (n i : ℕ) → _≡_ {A = ℕ} (getD (replicate n 0) i 0) 0
 getD-zeros zero i = refl
 getD-zeros (suc n) zero = refl
 getD-zeros (suc n) (suc i) = getD-zeros n i
@@ -85,9 +81,13 @@ getD-zeros (suc n) (suc i) = getD-zeros n i
 pub zeros-le : (n : ℕ) (zs : List ℕ) → zs ≡ replicate n 0 → (i : ℕ) → getD zs i 0 ≤ mostDots
 zeros-le n zs e i = let z : getD zs i 0 ≡ 0 = ap (λ (ys : List ℕ). getD ys i 0) e ∙ getD-zeros n i in omega arith
 
+-- as many as there are of something else
+pub zeros-as : {m n : ℕ} {zs : List ℕ} → zs ≡ replicate m 0 → m ≡ n → zs ≡ replicate n 0
+zeros-as z e = z ∙ ap (λ (k : ℕ). replicate k 0) e
+
 -- as many as there are lines
 pub zeros-of-lines : (rows : List Row) (n : ℕ) (zs : List ℕ) → zs ≡ replicate n 0 → n ≡ length rows → zs ≡ replicate (length (linesOf rows)) 0
-zeros-of-lines rows n zs e h = e ∙ ap (λ (k : ℕ). replicate k 0) (h ∙ sym (length-map rows lineOf))
+zeros-of-lines rows n zs e h = zeros-as {m = n} {n = length (linesOf rows)} e (h ∙ sym (length-map rows lineOf))
 
 pub zeros-more : (n : ℕ) (gs : List ℕ) → length gs ≡ n → zipWith _+_ (replicate n 0) gs ≡ gs
 unfolding zipWith
@@ -96,21 +96,21 @@ zeros-more zero (g ∷ gs) e = absurd (omega arith)
 zeros-more (suc n) [] e = refl
 zeros-more (suc n) (g ∷ gs) e = ap₂ _∷_ (zero-add g) (zeros-more n gs (omega arith))
 
-first-tracks : (letter : Letter) (ls : List Line) → shareTracks (First letter) ls (replicate (length ls) 0) ≡ map (firstTrack (letterOf letter)) ls
+pub tracks-of-zeros : (share : Share) (ls : List Line) → shareTracks share ls (replicate (length ls) 0) ≡ map (λ (l : Line). shareTrack share l 0) ls
 unfolding shareTracks zipWith
-first-tracks letter [] = refl
-first-tracks letter (l ∷ ls) = ap (firstTrack (letterOf letter) l ∷_) (first-tracks letter ls)
+tracks-of-zeros share [] = refl
+tracks-of-zeros share (l ∷ ls) = ap (shareTrack share l 0 ∷_) (tracks-of-zeros share ls)
 
 -- the first share of a letter
 abbrev pub firstFill : rule.Letter → ℕ → List Line → Fill
 firstFill letter extra ls = fill extra (map (firstTrack letter) ls)
 
 pub first-fresh : (letter : rule.Letter) (ls : List Line) → Fresh (map (firstTrack letter) ls)
-first-fresh letter ls = map-fresh (firstTrack letter) (λ (l : Line). refl) ls
+first-fresh letter ls = image-all (λ (t : fill.Track). t .gain ≡ 0) (firstTrack letter) (λ l. refl) ls
 
 module _ (letter : Letter) (extra : ℕ) (ls : List Line) (zs : List ℕ) (cleared : zs ≡ replicate (length ls) 0) where
   first-fill : fill extra (shareTracks (First letter) ls zs) ≡ firstFill (letterOf letter) extra ls
-  first-fill = ap (λ (ys : List ℕ). fill extra (shareTracks (First letter) ls ys)) cleared ∙ ap (fill extra) (first-tracks letter ls)
+  first-fill = ap (λ (ys : List ℕ). fill extra (shareTracks (First letter) ls ys)) cleared ∙ ap (fill extra) (tracks-of-zeros (First letter) ls)
 
   module _ (gs : List ℕ) (left : ℕ) (shared : gs ≡ moreGains zs (fill extra (shareTracks (First letter) ls zs))) (rest : left ≡ fill extra (shareTracks (First letter) ls zs) .left) where
     first-gains : gs ≡ gainsOf (firstFill (letterOf letter) extra ls .tracks)

@@ -5,9 +5,10 @@ use mathlib.Core.List.{List, [], _∷_, map}
 use Prim.Native.Nat.{ℕ, _+_, _≤_, _<_, max}
 use native.Mathlib.Nat.{add-zero, zero-add}
 use native.Mathlib.Omega.{arith}
-use lib.ListN.{length, getD, drop, set, drop-of-length-le, List·getD-map, length-map}
+use lib.ListN.{length, getD, drop, set, drop-of-length-le}
 use lib.Seq.{getD-drop, drop-drop}
-use Rattle.laws.specs.Lists.{among, some, every, larger, all-at}
+use Rattle.laws.specs.Lists.{among, some, every, larger}
+use Rattle.laws.specs.Alls.{all-image-at}
 use Rattle.laws.specs.Sums.{sum}
 use Rattle.laws.specs.Walk.{next, kept}
 use Rattle.kinds.specs.Kinds.{Row, maximumTag, maximumNumber}
@@ -36,7 +37,7 @@ module _ (rows : List Row) (i : ℕ) where
   lines-end h = ap (λ (rs : List Row). linesOf rs) (drop-of-length-le rows h)
 
   pub line-fits : LinesFit (linesOf rows) → i < length rows → LineFits (lineOf (getD rows i []))
-  line-fits a h = rw (List·getD-map lineOf rows i []) at (all-at LineFits (linesOf rows) i (lineOf []) a (rw (length-map rows lineOf) h))
+  line-fits a h = all-image-at LineFits lineOf rows i [] a h
 
   -- ---- a sum of what each line has
 

@@ -7,7 +7,8 @@ use native.Mathlib.Omega.{arith}
 use lib.ListN.{length, getD}
 use borrow.Author.Tests.{lt-ltb, le-ltb}
 use Rattle.laws.specs.Tests.{lt-or-ge}
-use Rattle.laws.specs.Lists.{All, inTurn}
+use Rattle.laws.specs.Lists.{All, inTurn, in-turn-append}
+use Rattle.laws.specs.Alls.{all-append-left, all-append-right}
 use Rattle.kinds.specs.Kinds.{Row}
 use Rattle.lines.specs.declared.measured.Measured.{Measured}
 use Rattle.lines.specs.Chains.{Rising, chainFrom, chain, partAt, chained}
@@ -53,23 +54,6 @@ unfolding chained flatMap
 chained-next rows nexts i r h = rw (chain-next nexts i r h) refl
 
 -- ---- A walk along a chain: what it makes of the items is made one item after another
-
-module _ {A S : Type 0} (f : A → S → S) where
-  in-turn-append : (xs ys : List A) (s : S) → inTurn f (xs ++ ys) s ≡ inTurn f ys (inTurn f xs s)
-  unfolding inTurn
-  in-turn-append [] ys s = refl
-  in-turn-append (x ∷ xs) ys s = in-turn-append xs ys (f x s)
-
-module _ {A : Type 0} (P : A → Type 0) where
-  all-append-left : (xs ys : List A) → All P (xs ++ ys) → All P xs
-  unfolding All
-  all-append-left [] ys a = tt
-  all-append-left (x ∷ xs) ys a = (a .0, all-append-left xs ys (a .1))
-
-  all-append-right : (xs ys : List A) → All P (xs ++ ys) → All P ys
-  unfolding All
-  all-append-right [] ys a = a
-  all-append-right (x ∷ xs) ys a = all-append-right xs ys (a .1)
 
 module _ (rows : List Row) (nexts : List ℕ) (i : ℕ) (r : Rising nexts) (h : i < length nexts) where
   -- s′ is what the item at i makes of s, and w what the whole walk makes

@@ -1,12 +1,13 @@
 -- Lines that fit still fit after steps 1, 2 and 4, and there are as many of them. Assumes nothing.
 use mathlib.Core.Path.{_≡_, refl, ap, _∙_}
 use mathlib.Core.Bool.{Bool, false}
-use mathlib.Core.List.{List, [], _∷_, map}
+use mathlib.Core.List.{List, [], _∷_}
 use Prim.Native.Nat.{ℕ, zero, suc, _≤_, min, zero-le}
 use native.Mathlib.Nat.{le-refl}
 use native.Mathlib.Omega.{arith}
 use lib.ListN.{length}
 use Rattle.laws.specs.Lists.{All, inTurn, changeAt}
+use Rattle.laws.specs.Alls.{all-image}
 use Rattle.kinds.specs.Kinds.{minimumNumber, maximumNumber}
 use Rattle.kinds.specs.declared.space.Constraint.{Constraint}
 use Rattle.kinds.specs.declared.space.Constraint.the-variants.{Definite, MinContent, MaxContent}
@@ -30,12 +31,12 @@ line-fits t base limit grows f b m = record { track = f; base = b; limit = m }
 
 -- ---- one line
 
-at-least-le : (base : ℕ) (limit : Limit) → base ≤ mostSize → limitNumber limit ≤ mostSize → limitNumber (atLeast base limit) ≤ mostSize
-at-least-le base None b m = m
-at-least-le base (UpTo n) b m = omega arith
+pub at-least-le : (base k : ℕ) (limit : Limit) → base ≤ k → limitNumber limit ≤ k → limitNumber (atLeast base limit) ≤ k
+at-least-le base k None b m = m
+at-least-le base k (UpTo n) b m = omega arith
 
 pub settled-fits : (l : Line) → LineFits l → LineFits (settled l)
-settled-fits l f = record { track = f .track; base = f .base; limit = at-least-le (l .base) (l .limit) (f .base) (f .limit) }
+settled-fits l f = record { track = f .track; base = f .base; limit = at-least-le (l .base) mostSize (l .limit) (f .base) (f .limit) }
 
 start-base-le : (m : Minimum) → minimumNumber m ≤ mostSize → startBase m ≤ mostSize
 start-base-le (minimum.Fixed n) h = h
@@ -64,13 +65,13 @@ cut-le : (limit : Limit) (n : ℕ) → cut limit n ≤ n
 cut-le None n = le-refl n
 cut-le (UpTo m) n = omega arith
 
-pub limited-le : (n : ℕ) (i : Measured) (ls : List Line) → i .minimum ≤ mostSize → n ≤ mostSize → limited n i ls ≤ mostSize
-limited-le n i ls h k = let c = cut-le (maxima ls) n in omega arith
+pub limited-le : (n k : ℕ) (i : Measured) (ls : List Line) → i .minimum ≤ k → n ≤ k → limited n i ls ≤ k
+limited-le n k i ls h l = let c = cut-le (maxima ls) n in omega arith
 
 pub for-auto-le : (c : Constraint) (n : ℕ) (i : Measured) (ls : List Line) → MeasuredFits n i → forAuto c i ls ≤ mostSize
 for-auto-le (Definite d) n i ls f = f .minimum
-for-auto-le MinContent n i ls f = limited-le (i .«min_content») i ls (f .minimum) (f .min-content)
-for-auto-le MaxContent n i ls f = limited-le (i .«min_content») i ls (f .minimum) (f .min-content)
+for-auto-le MinContent n i ls f = limited-le (i .«min_content») mostSize i ls (f .minimum) (f .min-content)
+for-auto-le MaxContent n i ls f = limited-le (i .«min_content») mostSize i ls (f .minimum) (f .min-content)
 
 base-asked-le : (c : Constraint) (n : ℕ) (i : Measured) (l : Line) (m : Minimum) → MeasuredFits n i → baseAsked c i l m ≤ mostSize
 base-asked-le c n i l (minimum.Fixed k) f = zero-le
@@ -97,11 +98,6 @@ with-item-line-fits c n i l f g =
     record { track = g .track; base = omega arith; limit = limit-asked-le n i (l .limit) (l .track .maximum) f (g .limit) }
 
 -- ---- all lines
-
-map-fits : (h : Line → Line) → ((l : Line) → LineFits l → LineFits (h l)) → (ls : List Line) → LinesFit ls → LinesFit (map h ls)
-unfolding All
-map-fits h k [] f = f
-map-fits h k (l ∷ ls) f = (k l (f .0), map-fits h k ls (f .1))
 
 change-fits : (t : ℕ) (h : Line → Line) → ((l : Line) → LineFits l → LineFits (h l)) → (ls : List Line) → LinesFit ls → LinesFit (changeAt t h ls)
 unfolding All changeAt
@@ -142,9 +138,9 @@ module _ (c : Constraint) (n : ℕ) where
 
   pub singles-fit : (is : List Measured) (ls : List Line) → MeasuredFit n is → LinesFit ls → LinesFit (singles c is ls)
   unfolding singles
-  singles-fit is ls f g = map-fits settled settled-fits _ (take-singles-fit is ls f g)
+  singles-fit is ls f g = all-image LineFits settled LineFits settled-fits _ (take-singles-fit is ls f g)
 
 -- 4. Missing limits
 pub missing-fit : (ls : List Line) → LinesFit ls → LinesFit (missing ls)
 unfolding missing
-missing-fit ls f = map-fits (λ (l : Line). withLimit l (UpTo (limitSize l))) (λ l g. record { track = g .track; base = g .base; limit = limit-size-le l g }) ls f
+missing-fit ls f = all-image LineFits (λ (l : Line). withLimit l (UpTo (limitSize l))) LineFits (λ l g. record { track = g .track; base = g .base; limit = limit-size-le l g }) ls f

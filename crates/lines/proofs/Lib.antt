@@ -2,6 +2,8 @@
 
 -- rows, and what they say
 pub mod Lines
+pub mod Slices
+pub mod Parted
 pub mod Starts
 pub mod Walks
 -- the chains of the batches

@@ -2,8 +2,7 @@
 use mathlib.Core.Path.{_≡_, refl, ap, ap₂, _∙_}
 use mathlib.Core.Bool.{Bool, true, false}
 use mathlib.Core.List.{[], _∷_}
-use Prim.Native.Nat.{ℕ, _+_, _-_}
-use native.Mathlib.Omega.{arith}
+use Prim.Native.Nat.{ℕ, _-_}
 use lib.Dec.{eqb}
 use lib.ListN.{getD}
 use Rattle.laws.specs.Marks.{bit}
@@ -14,10 +13,6 @@ use Rattle.lines.specs.declared.limit.Limit.{Limit}
 use Rattle.lines.specs.declared.limit.Limit.the-variants.{None, UpTo}
 use Rattle.lines.specs.Rule.{line, completeOf}
 use Rattle.lines.specs.Rows.{limitOf, limitNumber, limitTag, lineOf}
-
--- what is left above one size and then another
-pub sub-sub : (n a b : ℕ) → n - a - b ≡ n - (a + b)
-sub-sub n a b = omega arith
 
 limit-of-told : (limit : Limit) → limitOf (limitTag limit) (limitNumber limit) ≡ limit
 limit-of-told None = refl

@@ -6,6 +6,7 @@ use Prim.Native.Nat.{ℕ, suc, _+_, _≤_}
 use native.Mathlib.Omega.{arith}
 use lib.ListN.{getD}
 use Rattle.laws.specs.Lists.{All}
+use Rattle.laws.specs.Alls.{all-image, image-all}
 use Rattle.laws.specs.Tests.{never}
 use Rattle.fill.specs.Rule.{fill}
 use Rattle.fill.specs.Rule as fill
@@ -18,9 +19,9 @@ use Rattle.checks.specs.Rule.{mostSize}
 use Rattle.lines.specs.declared.limit.Limit.{Limit}
 use Rattle.lines.specs.declared.limit.Limit.the-variants.{None, UpTo}
 use Rattle.lines.specs.declared.line.Line.{Line}
-use Rattle.lines.specs.Rule.{isNone, cutLimit, roomTo, limitSize, argument, withBase, grownBase, maximiseTrack, filledLines, missing, maximise}
+use Rattle.lines.specs.Rule.{isNone, cutLimit, roomTo, limitSize, argument, withBase, withLimit, grownBase, maximiseTrack, filledLines, missing, maximise}
 use Rattle.lines.specs.Rows.{limitNumber}
-use Rattle.lines.specs.Fits.{LinesFit}
+use Rattle.lines.specs.Fits.{LineFits, LinesFit}
 use Rattle.lines.proofs.Fits.{limit-size-le}
 
 -- no limit is missing
@@ -28,9 +29,8 @@ abbrev pub Limited : List Line → Type 0
 Limited = All (λ (l : Line). isNone (l .limit) ≡ false)
 
 pub missing-limited : (ls : List Line) → Limited (missing ls)
-unfolding missing All
-missing-limited [] = tt
-missing-limited (l ∷ ls) = (refl, missing-limited ls)
+unfolding missing
+missing-limited ls = image-all (λ (l : Line). isNone (l .limit) ≡ false) (λ (l : Line). withLimit l (UpTo (limitSize l))) (λ l. refl) ls
 
 -- the room of a base ends at the limit
 room-le : (dots base g : ℕ) (limit argument : Limit) → isNone limit ≡ false → base ≤ mostSize → limitNumber limit ≤ mostSize
@@ -39,14 +39,9 @@ room-le dots base g None a e b m h = never refl e
 room-le dots base g (UpTo n) None e b m h = omega arith
 room-le dots base g (UpTo n) (UpTo k) e b m h = omega arith
 
--- tracks of lines, before the first round
-map-fresh : (h : Line → fill.Track) → ((l : Line) → h l .gain ≡ 0) → (ls : List Line) → Fresh (map h ls)
-unfolding All
-map-fresh h z [] = tt
-map-fresh h z (l ∷ ls) = (z l, map-fresh h z ls)
-
+-- before the first round
 pub maximise-fresh : (ls : List Line) → Fresh (map maximiseTrack ls)
-maximise-fresh ls = map-fresh maximiseTrack (λ (l : Line). refl) ls
+maximise-fresh ls = image-all (λ (t : fill.Track). t .gain ≡ 0) maximiseTrack (λ l. refl) ls
 
 grown-fit : (dots : ℕ) (ls : List Line) (gs : List ℕ) → ((i : ℕ) → getD gs i 0 ≤ getD (caps dots (map maximiseTrack ls)) i 0)
     → LinesFit ls → Limited ls → LinesFit (zipWith grownBase ls gs)
@@ -62,9 +57,7 @@ filled-fit : (dots : ℕ) (ls : List Line) → LinesFit ls → Limited ls → Li
 filled-fit dots ls f m = grown-fit dots ls _ (gain-le-cap dots (map maximiseTrack ls) (maximise-fresh ls)) f m
 
 to-limits-fit : (ls : List Line) → LinesFit ls → LinesFit (map (λ (l : Line). withBase l (limitSize l)) ls)
-unfolding All
-to-limits-fit [] f = tt
-to-limits-fit (l ∷ ls) f = (record { track = f .0 .track; base = limit-size-le l (f .0); limit = f .0 .limit }, to-limits-fit ls (f .1))
+to-limits-fit ls f = all-image LineFits (λ (l : Line). withBase l (limitSize l)) LineFits (λ l g. record { track = g .track; base = limit-size-le l g; limit = g .limit }) ls f
 
 pub maximise-fits : (c : Constraint) (ls : List Line) → LinesFit ls → Limited ls → LinesFit (maximise c ls .lines)
 unfolding maximise

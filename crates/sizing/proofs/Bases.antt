@@ -1,13 +1,15 @@
 -- How far the sum of the bases can go: what it is before step 6, and what a fill adds. Assumes nothing.
-use mathlib.Core.Path.{refl}
+use mathlib.Core.Path.{_≡_, refl}
 use mathlib.Core.Bool.{Bool, true, false}
 use mathlib.Core.List.{List, [], _∷_, map, zipWith}
 use Prim.Native.Nat.{ℕ, _+_, _-_, _*_, _≤_, zero-le}
 use native.Mathlib.Omega.{arith}
 use lib.ListN.{length}
 use Rattle.laws.specs.Lists.{All}
+use Rattle.laws.specs.Alls.{image-all}
 use Rattle.laws.specs.Sums.{sum}
 use Rattle.fill.specs.Rule.{gainsOf, fill}
+use Rattle.fill.specs.Rule as fill
 use Rattle.fill.proofs.Tied.{Fresh}
 use Rattle.fill.proofs.Fresh.{sum-gains-add-left}
 use Rattle.lines.specs.declared.line.Line.{Line}
@@ -29,9 +31,7 @@ bases-grown-le (l ∷ ls) [] = zero-le
 bases-grown-le (l ∷ ls) (g ∷ gs) = let r = bases-grown-le ls gs in omega arith
 
 stretch-fresh : (ls : List Line) → Fresh (map stretchTrack ls)
-unfolding All
-stretch-fresh [] = tt
-stretch-fresh (l ∷ ls) = (refl, stretch-fresh ls)
+stretch-fresh ls = image-all (λ (t : fill.Track). t .gain ≡ 0) stretchTrack (λ l. refl) ls
 
 pub bases-stretched-le : (asked : Bool) (n : ℕ) (ls : List Line) → bases (stretched asked (Definite n) ls) ≤ bases ls + n
 unfolding stretched

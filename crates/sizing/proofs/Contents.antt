@@ -3,7 +3,7 @@ use mathlib.Core.Path.{_≡_, refl, sym, ap, ap₂, _∙_, subst}
 use mathlib.Core.List.{List, map}
 use Prim.Native.Nat.{ℕ, zero, suc, _+_, _-_, _≤_, _<_}
 use native.Mathlib.Omega.{arith}
-use lib.ListN.{length, getD, replicate}
+use lib.ListN.{length, getD}
 use Rattle.laws.specs.Lists.{All, keep, inTurn, upFrom}
 use Rattle.kinds.specs.Kinds.{Row, itemOf}
 use Rattle.kinds.specs.declared.space.Constraint.{Constraint}
@@ -20,9 +20,6 @@ use Rattle.lines.specs.Chains.{chained}
 use Rattle.lines.proofs.Fits.{missing-fit}
 use Rattle.chains.specs.Batches.{Gathered}
 use Rattle.chains.proofs.Batches.{gathered-one, gathered-span, gathered-last}
-
-pub zeros-as : {m n : ℕ} {zs : List ℕ} → zs ≡ replicate m 0 → m ≡ n → zs ≡ replicate n 0
-zeros-as z e = z ∙ ap (λ (k : ℕ). replicate k 0) e
 
 pub items-fit-as : {m n : ℕ} (is : List Item) → m ≡ n → All (ItemFits n) is → All (ItemFits m) is
 items-fit-as is e f = rw e f

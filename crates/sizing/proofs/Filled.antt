@@ -2,12 +2,13 @@
 -- fills. Assumes nothing.
 use mathlib.Core.Path.{_≡_, refl, sym, ap, ap₂, _∙_}
 use mathlib.Core.Bool.{Bool, true, false, not}
-use mathlib.Core.List.{List, [], _∷_, map, zipWith}
-use Prim.Native.Nat.{ℕ, zero, suc, _+_, _-_, _≤_, _<_}
+use mathlib.Core.List.{List, [], map, zipWith}
+use Prim.Native.Nat.{ℕ, _+_, _-_, _≤_, _<_}
 use native.Mathlib.Omega.{arith}
-use lib.ListN.{length, getD, replicate, length-map, length-replicate, List·getD-map}
+use lib.ListN.{length, getD, replicate, length-map, length-replicate}
 use Rattle.laws.specs.Tests.{never}
-use Rattle.laws.specs.Lists.{all-at}
+use Rattle.laws.specs.Lists.{length-zip}
+use Rattle.laws.specs.Alls.{all-image-at}
 use Rattle.laws.specs.Sums.{sum}
 use Rattle.fill.specs.Rule.{mostDots, gainsOf, Fill, fill}
 use Rattle.fill.proofs.Fresh.{gain-add-left-le, length-gains}
@@ -21,14 +22,8 @@ use Rattle.letters.specs.declared.share.Share.{Share}
 use Rattle.letters.specs.declared.share.Share.the-variants.{Maximise, Stretch}
 use Rattle.letters.specs.Letters.{most}
 use Rattle.letters.specs.Shares.{shareTrack, shareTracks}
-use Rattle.letters.proofs.Shared.{share-fresh, zeros-more, zeros-of-lines}
+use Rattle.letters.proofs.Shared.{share-fresh, zeros-more, zeros-of-lines, tracks-of-zeros}
 use Rattle.sizing.specs.Size.{BasesFit, maximised}
-
-length-zip : {X Y Z : Type 0} (f : X → Y → Z) (xs : List X) (ys : List Y) → length ys ≡ length xs → length (zipWith f xs ys) ≡ length xs
-unfolding zipWith
-length-zip f [] ys e = refl
-length-zip f (x ∷ xs) [] e = absurd (omega arith)
-length-zip f (x ∷ xs) (y ∷ ys) e = ap suc (length-zip f xs ys (omega arith))
 
 -- ---- one fill
 
@@ -58,8 +53,7 @@ module _ (share : Share) (dots : ℕ) (rows : List Row) (zs : List ℕ) (z : zs 
     -- a base and its gain are within 32 bits
     pub shared-fits : dots ≤ mostDots → BasesFit (linesOf rows) → (i : ℕ) → i < length rows → lineOf (getD rows i []) .base + getD gs i 0 ≤ most
     shared-fits d b i h =
-        let fits : getD (linesOf rows) i (lineOf []) .base ≤ 4000000000 = all-at (λ (l : Line). l .base ≤ 4000000000) (linesOf rows) i (lineOf []) b (rw (length-map rows lineOf) h) in
-        let base : lineOf (getD rows i []) .base ≤ 4000000000 = rw (List·getD-map lineOf rows i []) at fits in
+        let base : lineOf (getD rows i []) .base ≤ 4000000000 = all-image-at (λ (l : Line). l .base ≤ 4000000000) lineOf rows i [] b h in
         let gain = gain-add-left-le dots (shareTracks share (linesOf rows) zs) (share-fresh share (linesOf rows) zs) i in
         let same : getD gs i 0 ≡ getD (gainsOf (sharedFill .tracks)) i 0 = ap (λ (ys : List ℕ). getD ys i 0) shared-gains in
         omega arith
@@ -69,26 +63,16 @@ module _ (share : Share) (dots : ℕ) (rows : List Row) (zs : List ℕ) (z : zs 
 
 -- ---- the tracks of steps 5 and 7
 
-maximise-tracks : (ls : List Line) → shareTracks Maximise ls (replicate (length ls) 0) ≡ map maximiseTrack ls
-unfolding shareTracks zipWith
-maximise-tracks [] = refl
-maximise-tracks (l ∷ ls) = ap (maximiseTrack l ∷_) (maximise-tracks ls)
-
-stretch-tracks : (ls : List Line) → shareTracks Stretch ls (replicate (length ls) 0) ≡ map stretchTrack ls
-unfolding shareTracks zipWith
-stretch-tracks [] = refl
-stretch-tracks (l ∷ ls) = ap (stretchTrack l ∷_) (stretch-tracks ls)
-
 module _ (rows : List Row) (zs : List ℕ) (z : zs ≡ replicate (length rows) 0) where
   maximise-fill : (dots : ℕ) → fill dots (shareTracks Maximise (linesOf rows) zs) ≡ fill dots (map maximiseTrack (linesOf rows))
   maximise-fill dots =
       ap (λ (ys : List ℕ). fill dots (shareTracks Maximise (linesOf rows) ys)) (zeros-of-lines rows (length rows) zs z refl)
-      ∙ ap (fill dots) (maximise-tracks (linesOf rows))
+      ∙ ap (fill dots) (tracks-of-zeros Maximise (linesOf rows))
 
   stretch-fill : (dots : ℕ) → fill dots (shareTracks Stretch (linesOf rows) zs) ≡ fill dots (map stretchTrack (linesOf rows))
   stretch-fill dots =
       ap (λ (ys : List ℕ). fill dots (shareTracks Stretch (linesOf rows) ys)) (zeros-of-lines rows (length rows) zs z refl)
-      ∙ ap (fill dots) (stretch-tracks (linesOf rows))
+      ∙ ap (fill dots) (tracks-of-zeros Stretch (linesOf rows))
 
   module _ (n total dots : ℕ) (whole : total ≡ sum (map (λ (l : Line). l .base) (linesOf rows))) (free : dots ≡ n - total) where
     free-dots : dots ≡ n - bases (linesOf rows)

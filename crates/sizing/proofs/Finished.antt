@@ -1,10 +1,11 @@
 -- Steps 6 and 7 from one to the next: what the lines keep between them, and that both together are the rule's. Assumes nothing.
 use mathlib.Core.Path.{_≡_, sym, ap, subst, _∙_}
-use mathlib.Core.List.{List, [], _∷_}
+use mathlib.Core.List.{List}
 use Prim.Native.Nat.{ℕ, _≤_}
 use native.Mathlib.Omega.{arith}
 use lib.ListN.{length}
 use Rattle.laws.specs.Lists.{All, keep}
+use Rattle.laws.specs.Alls.{all-map}
 use Rattle.fill.specs.Rule.{mostTracks, mostDots}
 use Rattle.kinds.specs.Kinds.{constraintNumber}
 use Rattle.kinds.specs.declared.space.Constraint.{Constraint}
@@ -30,9 +31,7 @@ finished-is s ts is ls = ap (λ (fr : Fr). stretched (s .stretch) (expansion s) 
 
 -- a bound that leaves more room
 bases-fit : (ls : List Line) → All (λ (l : Line). l .base ≤ mostGrown) ls → BasesFit ls
-unfolding All
-bases-fit [] a = tt
-bases-fit (l ∷ ls) a = let b = a .0 in (omega arith, bases-fit ls (a .1))
+bases-fit ls a = all-map (λ (l : Line). l .base ≤ mostGrown) (λ (l : Line). l .base ≤ 4000000000) (λ l (h : l .base ≤ mostGrown). omega arith) ls a
 
 -- ---- the lines after step 6
 

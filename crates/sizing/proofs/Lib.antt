@@ -1,7 +1,6 @@
 -- The laws of the sizing. A function's own proof stands in the folder of its name.
 
 -- the store, the places, the free space as 32 bits say it
-pub mod Store
 pub mod Places
 pub mod Difference
 -- steps 5 and 7, how far the bases go, and that every free space fits

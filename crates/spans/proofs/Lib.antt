@@ -1,8 +1,7 @@
 -- The laws of the spans. A function's own proof stands in the folder of its name.
 
--- one row of a store, an item by its part
+-- one row of a store, numbers going up
 pub mod Parts
-pub mod Parted
 -- step 2
 pub mod OneTrack
 -- step 3: one item, one letter, one batch

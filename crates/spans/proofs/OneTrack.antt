@@ -3,8 +3,9 @@ use mathlib.Core.Path.{_≡_, sym, ap, ap₂, _∙_}
 use mathlib.Core.List.{List, [], _∷_, map}
 use Prim.Native.Nat.{ℕ, _≤_, _<_, max}
 use native.Mathlib.Omega.{arith}
-use lib.ListN.{length, getD, take, drop, set, length-map, List·getD-map}
-use Rattle.laws.specs.Lists.{All, inTurn, all-at}
+use lib.ListN.{length, getD, take, drop, set, length-map}
+use Rattle.laws.specs.Lists.{All, inTurn}
+use Rattle.laws.specs.Alls.{all-image-at}
 use Rattle.fill.specs.Rule.{mostTracks}
 use Rattle.kinds.specs.Kinds.{Row}
 use Rattle.kinds.specs.declared.space.Constraint.{Constraint}
@@ -30,14 +31,9 @@ module _ (rows : List Row) (t n : ℕ) (l : Line) (h : t < length rows) (e : n �
       let one : length (take n (drop t rows)) ≡ 1 = sym (length-map (take n (drop t rows)) lineOf) ∙ ap length one-line in
       omega arith
 
-  line-fits-at : LinesFit (linesOf rows) → LineFits l
-  line-fits-at f =
-      rw (o, sym (List·getD-map lineOf rows t []))
-      (all-at LineFits (linesOf rows) t (lineOf []) f (rw (length-map rows lineOf) h))
-
   pub one-fits : LinesFit (linesOf rows) → LinesFit (linesOf (take n (drop t rows)))
   unfolding All
-  one-fits f = rw one-line (line-fits-at f, tt)
+  one-fits f = rw (one-line, o) (all-image-at LineFits lineOf rows t [] f h, tt)
 
 -- the row v stored for an item, from what its numbers are
 module _ (c : Constraint) (item : Measured) (rows : List Row) (v : Row) (l : Line) (asked base : ℕ) (limit : Limit)

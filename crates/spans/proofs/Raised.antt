@@ -17,6 +17,7 @@ use Rattle.lines.specs.Fits.{LinesFit, MeasuredFit}
 use Rattle.letters.specs.declared.letter.Letter.{Letter}
 use Rattle.letters.specs.Letters.{letterOf, most}
 use Rattle.letters.proofs.Keeps.{length-increases, increases-fit-rows, raise-fits}
+use Rattle.letters.proofs.Shared.{zeros-as, zeros-of-lines}
 use native.Mathlib.Omega.{arith}
 use Rattle.lines.specs.Chains.{ChainFits}
 use Rattle.spans.specs.Work.{Working, letterAt, hasPlace, letterStep, letterSteps}
@@ -27,7 +28,7 @@ module _ (letter : Letter) (c : Constraint) (batch : List Measured) (rows : List
   unfolding increases
   planned-is =
       told
-      ∙ ap (inTurn (increasedBy (letterOf letter) c (linesOf rows)) batch) (none ∙ ap (λ (n : ℕ). replicate n 0) (sym (length-map rows lineOf)))
+      ∙ ap (inTurn (increasedBy (letterOf letter) c (linesOf rows)) batch) (zeros-of-lines rows (length rows) start none refl)
 
   pub length-planned : length planned ≡ length rows
   length-planned = ap length planned-is ∙ length-increases (letterOf letter) c batch (linesOf rows) ∙ length-map rows lineOf
@@ -85,12 +86,12 @@ batch-of-none c batch ls e = rw e refl
 pub working-after : {lines lines′ : List Row} {increases increases′ gains gains′ rests rests′ : List ℕ} → Working lines increases gains rests
     → length lines′ ≡ length lines → length gains′ ≡ length gains → length rests′ ≡ length rests → LinesFit (linesOf lines′) → increases′ ≡ replicate (length lines) 0
     → Working lines′ increases′ gains′ rests′
-working-after w l g r f z =
+working-after {lines} {lines′} w l g r f z =
     let few = w .few in
     record {
       few = omega arith;
       fit = f;
-      none = z ∙ ap (λ (n : ℕ). replicate n 0) (sym l);
+      none = zeros-as {m = length lines} {n = length lines′} z (sym l);
       gains-long = g ∙ w .gains-long ∙ sym l;
       rests-long = r ∙ w .rests-long ∙ sym l;
     }

@@ -3,7 +3,7 @@ use Rattle.sizing.proofs.size.Statement.{statement}
 use mathlib.Core.Path.{sym}
 use mathlib.Core.Bool.{false}
 use lib.ListN.{length, replicate, length-replicate}
-use Rattle.sizing.proofs.Store.{take-replicate, length-front}
+use Rattle.laws.specs.Store.{take-replicate, length-front}
 use Prim.Native.Nat.{ℕ}
 use mathlib.Core.List.{List}
 use Rattle.sizing.proofs.size.Tie as tie

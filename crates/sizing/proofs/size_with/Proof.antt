@@ -10,9 +10,10 @@ use Rattle.kinds.specs.Kinds.{trackOf, itemOf}
 use Rattle.lines.specs.Rule.{measuredItems}
 use Rattle.lines.specs.Rows.{linesOf}
 use Rattle.lines.specs.Chains.{chained}
+use Rattle.letters.proofs.Shared.{zeros-as}
 use Rattle.chains.proofs.Batches.{gathered-fits, gathered-last}
 use Rattle.spans.proofs.Raised.{chain-fits-as}
-use Rattle.sizing.proofs.Contents.{items-fit-as, zeros-as}
+use Rattle.sizing.proofs.Contents.{items-fit-as}
 use Rattle.sizing.proofs.Sized.{bases-fit, maximised-fit, sized}
 use Rattle.sizing.proofs.size_with.Tie as tie
 

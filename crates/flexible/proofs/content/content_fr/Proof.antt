@@ -3,15 +3,15 @@ use borrow.Author.Needs.{needs}
 use Rattle.flexible.proofs.content.content_fr.Statement.{statement}
 use mathlib.Core.Path.{_≡_, ap}
 use native.Mathlib.Omega.{arith}
-use Prim.Native.Nat.{_-_}
+use Prim.Native.Nat.{_-_, _<_}
 use lib.ListN.{length}
 use Rattle.laws.specs.Lists.{inTurn}
 use Rattle.lines.specs.Rule.{itemFr}
 use Rattle.lines.specs.Rows.{linesOf}
-use Rattle.lines.specs.Fits.{MeasuredFit}
+use Rattle.lines.specs.Fits.{MeasuredFits, MeasuredFit}
 use Rattle.lines.specs.Chains.{chained}
+use Rattle.lines.proofs.Chains.{walk-turn, walk-end, all-part, all-rest}
 use Rattle.flexible.specs.Flexes.{batchFr}
-use Rattle.flexible.proofs.Spans.{chain-fits-here, chain-fits-next, chain-step, chain-rises, chain-done}
 use Rattle.flexible.proofs.content.content_fr.Tie as tie
 
 abbrev Inv-loop : tie.InvT-loop
@@ -38,8 +38,10 @@ shared-slice-copy-out-row c = search needs
 item-fr-requires : tie.Need-item-fr-requires Inv-loop μ-loop
 item-fr-requires c κs =
     let a = c .before .before .before .before .before .before .before in
-    let l = c .before .before .before in
-    (record { one-length = search needs; few = a .pre .0 .few; fits = a .pre .0 .fits }, chain-fits-here (a .args .items .now) (a .args .nexts .now) (l .loop .i) (a .pre .1 .one-length) (a .pre .1 .rising) (c .before .before .loop-test .taken) _ (l .loop .inv .1))
+    let l = c .before .before .before .loop in
+    let long = a .pre .1 .one-length in
+    let k : l .i < length (a .args .nexts .now) = search needs in
+    (record { one-length = search needs; few = a .pre .0 .few; fits = a .pre .0 .fits }, all-part (a .args .items .now) (a .args .nexts .now) (l .i) (a .pre .1 .rising) k (MeasuredFits _) (l .inv .1))
 
 mul-i : tie.Need-mul-i Inv-loop μ-loop
 mul-i c = search needs
@@ -50,17 +52,21 @@ shared-slice-read-i c = omega (arith, c .before .before .before .before .before 
 loop-less : tie.Need-loop-less Inv-loop μ-loop
 loop-less c =
     let a = c .before .before .before .before .before .before .before .before .before .before .before in
-    let l = c .before .before .before .before .before .before .before in
-    let r = chain-rises (a .args .items .now) (a .args .nexts .now) (l .loop .i) (a .pre .1 .one-length) (a .pre .1 .rising) (c .before .before .before .before .before .before .loop-test .taken) in
-    omega arith
+    let l = c .before .before .before .before .before .before .before .loop in
+    let long = a .pre .1 .one-length in
+    let k : l .i < length (a .args .nexts .now) = search needs in
+    let up = a .pre .1 .rising (l .i) k in
+    search needs
 
 loop-again : tie.Need-loop-again Inv-loop μ-loop
 loop-again c =
     let a = c .before .before .before .before .before .before .before .before .before .before .before in
-    let l = c .before .before .before .before .before .before .before in (
+    let l = c .before .before .before .before .before .before .before .loop in
+    let long = a .pre .1 .one-length in
+    let k : l .i < length (a .args .nexts .now) = search needs in (
       search needs,
-      chain-fits-next (a .args .items .now) (a .args .nexts .now) (l .loop .i) (a .pre .1 .one-length) (a .pre .1 .rising) (c .before .before .before .before .before .before .loop-test .taken) _ (l .loop .inv .1),
-      chain-step (a .args .items .now) (a .args .nexts .now) (l .loop .i) (a .pre .1 .one-length) (a .pre .1 .rising) (c .before .before .before .before .before .before .loop-test .taken) (itemFr (linesOf (a .args .lines .now))) (l .loop .fr) (c .before .before .before .item-fr .result) _ (c .before .before .before .item-fr .ensures) (l .loop .inv .2),
+      all-rest (a .args .items .now) (a .args .nexts .now) (l .i) (a .pre .1 .rising) k (MeasuredFits _) (l .inv .1),
+      walk-turn (a .args .items .now) (a .args .nexts .now) (l .i) (a .pre .1 .rising) k (itemFr (linesOf (a .args .lines .now))) (l .fr) _ _ (l .inv .2) (c .before .before .before .item-fr .ensures),
     )
 
 same-length : tie.Need-same-length Inv-loop μ-loop
@@ -69,8 +75,9 @@ same-length c = search needs
 returns : tie.Need-returns Inv-loop μ-loop
 returns c =
     let a = c .before .before .before .before .before in
-    let l = c .before in
-    chain-done (a .args .items .now) (a .args .nexts .now) (l .loop .i) (a .pre .1 .one-length) (itemFr (linesOf (a .args .lines .now))) (l .loop .fr) _ (c .loop-test .left) (l .loop .inv .2)
+    let l = c .before .loop in
+    let long = a .pre .1 .one-length in
+    walk-end (a .args .items .now) (a .args .nexts .now) (l .i) (itemFr (linesOf (a .args .lines .now))) (l .fr) _ (search needs) (l .inv .2)
 
 pub content-fr-spec : {M : Type 1} → statement M
 content-fr-spec =

@@ -4,7 +4,8 @@ use Rattle.flexible.proofs.content.item_fr.Statement.{statement}
 use native.Mathlib.Omega.{arith}
 use Rattle.lines.specs.Rule.{itemFr}
 use Rattle.lines.specs.Rows.{linesOf}
-use Rattle.flexible.proofs.Spans.{part-fits, span-fr-is, left-out, takes-part, takes-fits}
+use Rattle.lines.proofs.Parted.{part-left, part-taken, part-fits}
+use Rattle.flexible.proofs.Spans.{store-slice-fits, span-fr-is}
 use Rattle.flexible.proofs.content.item_fr.Tie as tie
 
 of-row-requires : tie.Need-of-row-requires
@@ -40,7 +41,7 @@ part-search-over-start c = search needs
 part-search-over-end : tie.Need-part-search-over-end
 part-search-over-end c =
     let a = c .before .before .before .before .before .before .before .before in
-    let f = takes-fits (a .args .row) (c .before .before .before .before .before .before .of-row .result) (c .before .before .before .before .before .part-of .result) (c .before .before .before .before .before .before .of-row .ensures) (c .before .before .before .before .before .part-of .ensures) _ (c .before .before .before .part .given .1) _ (a .pre .1) in
+    let f = part-fits _ _ (a .args .row) (c .before .before .before .before .before .part-of .ensures) (c .before .before .before .before .before .before .of-row .ensures) _ (c .before .before .before .part .given .1) _ (a .pre .1) in
     omega (arith, f .within)
 
 sub-search-over-2 : tie.Need-sub-search-over-2
@@ -52,15 +53,15 @@ part-search-over-start-2 c = search needs
 part-search-over-end-2 : tie.Need-part-search-over-end-2
 part-search-over-end-2 c =
     let a = c .before .before .before .before .before .before .before .before .before in
-    let f = takes-fits (a .args .row) (c .before .before .before .before .before .before .before .of-row .result) (c .before .before .before .before .before .before .part-of .result) (c .before .before .before .before .before .before .before .of-row .ensures) (c .before .before .before .before .before .before .part-of .ensures) _ (c .before .before .before .before .part .given .1) _ (a .pre .1) in
+    let f = part-fits _ _ (a .args .row) (c .before .before .before .before .before .before .part-of .ensures) (c .before .before .before .before .before .before .before .of-row .ensures) _ (c .before .before .before .before .part .given .1) _ (a .pre .1) in
     omega (arith, f .within, a .pre .0 .one-length)
 
 search-over-requires : tie.Need-search-over-requires
 search-over-requires c κs =
     let a = c .before .before .before .before .before .before .before .before .before .before in
     let m = c .before .before .before .before .before .part .given .0 .0 in
-    let f = takes-fits (a .args .row) (c .before .before .before .before .before .before .before .before .of-row .result) (c .before .before .before .before .before .before .before .part-of .result) (c .before .before .before .before .before .before .before .before .of-row .ensures) (c .before .before .before .before .before .before .before .part-of .ensures) _ (c .before .before .before .before .before .part .given .1) _ (a .pre .1) in
-    part-fits (a .args .lines .now) (a .args .held .now) (m .start) (m .span) (f .within) (a .pre .0)
+    let f = part-fits _ _ (a .args .row) (c .before .before .before .before .before .before .before .part-of .ensures) (c .before .before .before .before .before .before .before .before .of-row .ensures) _ (c .before .before .before .before .before .part .given .1) _ (a .pre .1) in
+    store-slice-fits (a .args .lines .now) (a .args .held .now) (m .start) (m .span) (f .within) (a .pre .0)
 
 larger-fr-requires : tie.Need-larger-fr-requires
 larger-fr-requires c κs = search needs
@@ -68,7 +69,7 @@ larger-fr-requires c κs = search needs
 returns : tie.Need-returns
 returns c =
     let a = c .before .before .before .before .before in
-    left-out (a .args .row) (c .before .before .before .of-row .result) (c .before .before .part-of .result) (c .before .before .before .of-row .ensures) (c .before .before .part-of .ensures) (itemFr (linesOf (a .args .lines .now))) (a .args .fr) (c .enum-told .given .1)
+    part-left _ _ (a .args .row) (c .before .before .part-of .ensures) (c .before .before .before .of-row .ensures) (itemFr (linesOf (a .args .lines .now))) (a .args .fr) (c .enum-told .given .1)
 
 same-length : tie.Need-same-length
 same-length c = search needs
@@ -77,7 +78,7 @@ returns-2 : tie.Need-returns-2
 returns-2 c =
     let a = c .before .before .before .before .before .before .before .before .before .before .before .before .before .before in
     let m = c .before .before .before .before .before .before .before .before .before .part .given .0 .0 in
-    takes-part (a .args .row) (c .before .before .before .before .before .before .before .before .before .before .before .before .of-row .result) (c .before .before .before .before .before .before .before .before .before .before .before .part-of .result) (c .before .before .before .before .before .before .before .before .before .before .before .before .of-row .ensures) (c .before .before .before .before .before .before .before .before .before .before .before .part-of .ensures) m (c .before .before .before .before .before .before .before .before .before .part .given .1) (itemFr (linesOf (a .args .lines .now))) (a .args .fr) (c .larger-fr .result)
+    part-taken _ _ (a .args .row) (c .before .before .before .before .before .before .before .before .before .before .before .part-of .ensures) (c .before .before .before .before .before .before .before .before .before .before .before .before .of-row .ensures) (itemFr (linesOf (a .args .lines .now))) (a .args .fr) m (c .before .before .before .before .before .before .before .before .before .part .given .1) (c .larger-fr .result)
     (span-fr-is (a .args .lines .now) m (a .args .fr) (c .before .before .before .search-over .result) (c .larger-fr .result) (c .before .before .before .search-over .ensures) (c .larger-fr .ensures))
 
 pub item-fr-spec : {M : Type 1} → statement M

@@ -7,9 +7,10 @@ use Prim.Native.Nat.{_≤_}
 use native.Mathlib.Omega.{arith}
 use lib.ListN.{length, length-map}
 use Rattle.kinds.specs.Kinds.{trackOf, itemOf}
+use Rattle.letters.proofs.Shared.{zeros-as}
 use Rattle.chains.proofs.Batches.{gathered-fits, gathered-whole}
 use Rattle.spans.proofs.Raised.{chain-fits-as}
-use Rattle.sizing.proofs.Contents.{items-fit-as, zeros-as, content-made}
+use Rattle.sizing.proofs.Contents.{items-fit-as, content-made}
 use Rattle.sizing.proofs.content.content.Tie as tie
 
 prepare-requires : tie.Need-prepare-requires

@@ -4,8 +4,9 @@ use Rattle.sizing.proofs.content.spread.Statement.{statement}
 use native.Mathlib.Omega.{arith}
 use lib.ListN.{length, getD}
 use Rattle.lines.specs.Chains.{chained}
+use Rattle.letters.proofs.Shared.{zeros-as}
 use Rattle.spans.proofs.Raised.{working-after, chain-fits-as}
-use Rattle.sizing.proofs.Contents.{zeros-as, spread-made}
+use Rattle.sizing.proofs.Contents.{spread-made}
 use Rattle.sizing.proofs.content.spread.Tie as tie
 
 longer-requires : tie.Need-longer-requires

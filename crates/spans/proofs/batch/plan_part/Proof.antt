@@ -4,8 +4,8 @@ use Rattle.spans.proofs.batch.plan_part.Statement.{statement}
 use lib.ListN.{length}
 use Rattle.lines.specs.Rule.{increasedBy}
 use Rattle.lines.specs.Rows.{linesOf}
+use Rattle.lines.proofs.Parted.{part-left, part-taken, part-fits}
 use Rattle.letters.specs.Letters.{letterOf}
-use Rattle.spans.proofs.Parted.{part-left, part-taken, part-fits}
 use Rattle.spans.proofs.batch.plan_part.Tie as tie
 
 of-row-requires : tie.Need-of-row-requires

@@ -4,7 +4,7 @@ use Rattle.spans.proofs.one_track.with_part.Statement.{statement}
 use lib.ListN.{length}
 use Rattle.lines.specs.Rows.{linesOf}
 use Rattle.lines.specs.Rule.{withItemAt}
-use Rattle.spans.proofs.Parted.{part-left, part-fits, part-taken}
+use Rattle.lines.proofs.Parted.{part-left, part-fits, part-taken}
 use Rattle.spans.proofs.one_track.with_part.Tie as tie
 
 of-row-requires : tie.Need-of-row-requires

@@ -2,10 +2,10 @@ use borrow.Author.Needs.{needs}
 use Rattle.lines.proofs.limit.Limit.room_above.Statement.{statement}
 use mathlib.Core.Path.{_≡_, sym, ap, _∙_}
 use Prim.Native.Nat.{ℕ, _+_, _-_}
+use native.Mathlib.Nat.{sub-add-eq}
 use Rattle.fill.specs.Rule.{upTo}
 use Rattle.lines.specs.declared.limit.Limit.{Limit}
 use Rattle.lines.specs.Rule.{roomTo}
-use Rattle.lines.proofs.Lines.{sub-sub}
 use Rattle.lines.proofs.limit.Limit.room_above.Tie as tie
 
 -- `room_above` is the room above a size and a gain; none stays none. Assumes nothing.
@@ -30,7 +30,7 @@ returns-2 c =
     let s = c .before .before .before .before .before .args .size in
     let g = c .before .before .before .before .before .args .gain in
     let n = c .before .before .before .self .given .0 .0 in
-    let left : c .less2 .result ≡ n - (s + g) = c .less2 .ensures ∙ ap (λ (k : ℕ). k - g) (c .before .less .ensures) ∙ sub-sub n s g in
+    let left : c .less2 .result ≡ n - (s + g) = c .less2 .ensures ∙ ap (λ (k : ℕ). k - g) (c .before .less .ensures) ∙ sym (sub-add-eq n s g) in
     ap upTo left ∙ ap (λ (m : Limit). roomTo m (s + g)) (sym (c .before .before .before .self .given .1))
 
 pub room-above-spec : {M : Type 1} → statement M

@@ -1,0 +1,31 @@
+-- The tests of a call one after another: what is refused first, and what a call that is not refused is known by. Assumes
+-- nothing.
+use mathlib.Core.Path.{_≡_, refl, sym, _∙_, subst}
+use mathlib.Core.Bool.{Bool, true, false}
+use mathlib.Core.List.{List}
+use Prim.Native.Nat.{ℕ}
+use Rattle.domain.specs.Domain.{Finding, fine, refused, first, unless, lengthsFit, lengthsFinding}
+use Rattle.domain.proofs.Outside.{first-fine}
+
+-- a test that passes, and one that does not
+module _ (test : Bool) (n place : ℕ) (rest : Finding) where
+  pub first-of-passed : test ≡ true → rest ≡ first (unless test (refused n place)) rest
+  first-of-passed e = rw e refl
+
+  pub first-of-failed : test ≡ false → refused n place ≡ first (unless test (refused n place)) rest
+  first-of-failed e = rw e refl
+
+refused-not-fine : (n place : ℕ) → refused n place ≡ fine → ⊥
+refused-not-fine n place e = subst isRefused e tt
+  where
+    isRefused : Finding → Type 0
+    isRefused fine = ⊥
+    isRefused (refused a b) = Unit {0}
+
+pub passed-of-fine : (test : Bool) (n place : ℕ) → unless test (refused n place) ≡ fine → test ≡ true
+passed-of-fine true n place h = refl
+passed-of-fine false n place h = absurd (refused-not-fine n place h)
+
+-- the lengths of a call whose first test is theirs
+pub lengths-of-fine : (n : ℕ) (ms : List ℕ) (rest : Finding) → first (lengthsFinding n ms) rest ≡ fine → lengthsFit n ms ≡ true
+lengths-of-fine n ms rest h = passed-of-fine (lengthsFit n ms) 12 0 (first-fine (lengthsFinding n ms) rest h .0)

@@ -1,0 +1,4 @@
+pub mod Calls
+pub mod Fine
+pub mod Lengths
+pub mod Unique

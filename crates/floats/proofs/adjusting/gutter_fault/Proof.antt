@@ -1,0 +1,59 @@
+-- `gutter_fault`: the lengths, the count, then the numbers. Assumes nothing.
+use mathlib.Core.Path.{_≡_, refl, sym, _∙_, ap}
+use mathlib.Core.List.{[], _∷_}
+use Prim.Native.Nat.{_+_, _*_}
+use native.Mathlib.Omega.{arith}
+use borrow.Author.Tests.{not-true, not-false}
+use lib.ListN.{length}
+use Rattle.domain.specs.declared.kind.Kind.the-variants.{Size, Limit, Factor, Proportion}
+use Rattle.domain.specs.Domain.{given, numbersOf, tracksNumbers, lengthsFit}
+use Rattle.domain.proofs.Outside.{outside-then, outside-both, length-numbers-of, length-tracks-numbers, lengths-fit-head}
+use Rattle.floats.proofs.Fine.{first-of-passed, first-of-failed}
+use Rattle.floats.proofs.Lengths.{one-length}
+use Rattle.floats.specs.Rule.{sizeNumber}
+use borrow.Author.Needs.{needs}
+use Rattle.floats.proofs.adjusting.gutter_fault.Statement.{statement}
+use Rattle.floats.proofs.adjusting.gutter_fault.Tie as tie
+
+two-fit-requires : tie.Need-two-fit-requires
+two-fit-requires c κs = search needs
+
+returns : tie.Need-returns
+returns c = first-of-failed _ 12 0 _ (sym (c .before .two-fit .ensures) ∙ not-true _ (c .if1 .taken))
+
+is-gutter-count-requires : tie.Need-is-gutter-count-requires
+is-gutter-count-requires c κs = search needs
+
+returns-2 : tie.Need-returns-2
+returns-2 c =
+    first-of-failed _ 14 0 _ (sym (c .before .is-gutter-count .ensures) ∙ not-true _ (c .if2 .taken))
+    ∙ first-of-passed _ 12 0 _ (sym (c .before .before .before .two-fit .ensures) ∙ not-false _ (c .before .before .if1 .left))
+
+slice-fault-requires : tie.Need-slice-fault-requires
+slice-fault-requires c κs = search needs
+
+size-fault-requires : tie.Need-size-fault-requires
+size-fault-requires c κs = search needs
+
+first-requires : tie.Need-first-requires
+first-requires c κs = search needs
+
+returns-3 : tie.Need-returns-3
+returns-3 c =
+    let a = c .before .before .before .before .before .before .before .before .before .args in
+    outside-then 0 1 (sizeNumber (a .inner)) (numbersOf Size (a .estimates .now)) (c .first .ensures) (c .before .size-fault .ensures) (c .before .before .slice-fault .ensures) (omega arith)
+    ∙ first-of-passed _ 14 0 _ (sym (c .before .before .before .before .is-gutter-count .ensures) ∙ not-false _ (c .before .before .before .if2 .left))
+    ∙ first-of-passed _ 12 0 _ (sym (c .before .before .before .before .before .before .two-fit .ensures) ∙ not-false _ (c .before .before .before .before .before .if1 .left))
+
+pub gutter-fault-spec : {M : Type 1} → statement M
+gutter-fault-spec =
+    tie.close
+    (tie.spec
+    two-fit-requires
+    returns
+    is-gutter-count-requires
+    returns-2
+    slice-fault-requires
+    size-fault-requires
+    first-requires
+    returns-3)

@@ -1,0 +1,68 @@
+-- `maximise_fault`: the lengths, then the numbers from the fit-content limits to the space. Assumes nothing.
+use mathlib.Core.Path.{_≡_, refl, sym, _∙_, ap}
+use mathlib.Core.List.{[], _∷_}
+use Prim.Native.Nat.{_+_, _*_}
+use native.Mathlib.Omega.{arith}
+use borrow.Author.Tests.{not-true, not-false}
+use lib.ListN.{length}
+use Rattle.domain.specs.declared.kind.Kind.the-variants.{Size, Limit, Factor, Proportion}
+use Rattle.domain.specs.Domain.{given, numbersOf, tracksNumbers, lengthsFit}
+use Rattle.domain.proofs.Outside.{outside-then, outside-both, length-numbers-of, length-tracks-numbers, lengths-fit-head}
+use Rattle.floats.proofs.Fine.{first-of-passed, first-of-failed}
+use Rattle.floats.proofs.Lengths.{one-length}
+use Rattle.floats.specs.Rule.{spaceNumber}
+use borrow.Author.Needs.{needs}
+use Rattle.floats.proofs.maximising.maximise_fault.Statement.{statement}
+use Rattle.floats.proofs.maximising.maximise_fault.Tie as tie
+
+two-fit-requires : tie.Need-two-fit-requires
+two-fit-requires c κs = search needs
+
+returns : tie.Need-returns
+returns c = first-of-failed _ 12 0 _ (sym (c .before .two-fit .ensures) ∙ not-true _ (c .if1 .taken))
+
+mul-slice-fault : tie.Need-mul-slice-fault
+mul-slice-fault c = search needs
+
+add-slice-fault : tie.Need-add-slice-fault
+add-slice-fault c = search needs
+
+slice-fault-requires : tie.Need-slice-fault-requires
+slice-fault-requires c κs = search needs
+
+tracks-fault-requires : tie.Need-tracks-fault-requires
+tracks-fault-requires c κs = search needs
+
+first-requires : tie.Need-first-requires
+first-requires c κs = search needs
+
+space-fault-requires : tie.Need-space-fault-requires
+space-fault-requires c κs = search needs
+
+first-requires-2 : tie.Need-first-requires-2
+first-requires-2 c κs = search needs
+
+returns-2 : tie.Need-returns-2
+returns-2 c =
+    let a = c .before .before .before .before .before .before .before .before .args in
+    let n = length (a .tracks .now) in
+    let from-tracks =
+        outside-both 1 (1 + 5 * n) (tracksNumbers (a .tracks .now)) (numbersOf Limit (a .fits .now)) (c .before .before .first .ensures) (c .before .before .before .tracks-fault .ensures) (c .before .before .before .before .slice-fault .ensures)
+        (omega (arith, length-tracks-numbers (a .tracks .now))) in
+    outside-then 0 1 (spaceNumber (a .space)) _ (c .first2 .ensures) (c .before .space-fault .ensures) from-tracks (omega arith)
+    ∙ first-of-passed _ 12 0 _ (sym (c .before .before .before .before .before .before .two-fit .ensures) ∙ not-false _ (c .before .before .before .before .before .if1 .left))
+
+pub maximise-fault-spec : {M : Type 1} → statement M
+maximise-fault-spec =
+    tie.close
+    (tie.spec
+    two-fit-requires
+    returns
+    mul-slice-fault
+    add-slice-fault
+    slice-fault-requires
+    tracks-fault-requires
+    first-requires
+    space-fault-requires
+    first-requires-2
+    returns-2)

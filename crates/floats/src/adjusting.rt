@@ -1,0 +1,74 @@
+// The gutter adjustment of an alignment. The estimate of each track may be absent.
+use crate::answer::NumberAnswer;
+use domain::Fault;
+use domain::Kind;
+use domain::Refusal;
+use domain::number_fault;
+use domain::slice_fault;
+use domain::two_fit;
+use float_track::OptionalSize;
+use gutters::AlignContent;
+ghost use mathlib.Core.Path.{_≡_};
+ghost use mathlib.Core.List.{[], _∷_};
+ghost use Rattle.domain.specs.Domain.{outsideFrom};
+ghost use Rattle.domain.specs.Answer.{findingOf};
+ghost use Rattle.floats.specs.Rule.{sizeNumber, isGutterCount, gutterFinding, gutterCall};
+ghost use Rattle.floats.specs.Answer.{numberTold};
+
+// A size that may be absent; where it is, there is no float to test.
+pub(crate) fn size_fault(index: usize, size: OptionalSize) -> Fault
+    ensures { λ r. ⌜ findingOf r ≡ outsideFrom index (sizeNumber size ∷ []) ⌝ }
+{
+    match size {
+        OptionalSize::Given(x) => number_fault(index, Kind::Size, x),
+        OptionalSize::Absent => Fault::Fine,
+    }
+}
+
+// The Rust takes 3 off the count and halves the rest: so 3, and even counts but 0, are out.
+fn is_gutter_count(count: usize) -> bool
+    ensures { λ r. ⌜ r ≡ isGutterCount count ⌝ }
+{
+    if count == 3 {
+        return false;
+    }
+    if count == 0 {
+        return true;
+    }
+    count % 2 == 1
+}
+
+fn gutter_fault(inner: OptionalSize, known: &[bool], estimates: &[f32]) -> Fault
+    ensures { λ r. ⌜ findingOf r ≡ gutterFinding inner (now (known .entry)) (now (estimates .entry)) ⌝ }
+{
+    if !two_fit(known.len(), estimates.len()) {
+        return Fault::Found(Refusal::Lengths);
+    }
+    if !is_gutter_count(known.len()) {
+        return Fault::Found(Refusal::Gutters);
+    }
+    let fault = slice_fault(1, Kind::Size, estimates);
+    size_fault(0, inner).first(fault)
+}
+
+pub fn compute_alignment_gutter_adjustment(
+    alignment: AlignContent,
+    inner: OptionalSize,
+    known: &[bool],
+    estimates: &[f32],
+) -> NumberAnswer
+    ensures { λ r. ⌜ numberTold r ≡ gutterCall alignment inner (now (known .entry)) (now (estimates .entry)) ⌝ }
+{
+    let fault = gutter_fault(inner, known, estimates);
+    match fault {
+        Fault::Found(refusal) => NumberAnswer::Refused(refusal),
+        Fault::Fine => {
+            NumberAnswer::Number(gutters::compute_alignment_gutter_adjustment(
+                alignment,
+                inner,
+                known,
+                estimates,
+            ))
+        }
+    }
+}

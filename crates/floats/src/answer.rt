@@ -1,0 +1,21 @@
+// What a call answers.
+use domain::Refusal;
+use float_track::Track;
+
+// A number: what is left, the size of an fr, a gutter's adjustment.
+pub enum NumberAnswer {
+    Number(f32),
+    Refused(Refusal),
+}
+
+// The sizes stand in the lent tracks.
+pub enum TracksAnswer {
+    Sized,
+    Refused(Refusal),
+}
+
+// The track, flushed.
+pub enum FlushAnswer {
+    Flushed(Track),
+    Refused(Refusal),
+}

@@ -1,0 +1,67 @@
+// The distribution of space up to limits.
+use crate::answer::NumberAnswer;
+use domain::Fault;
+use domain::Kind;
+use domain::Refusal;
+use domain::five_fit;
+use domain::number_fault;
+use domain::slice_fault;
+use domain::tracks_fault;
+ghost use mathlib.Core.Path.{_≡_};
+ghost use Rattle.domain.specs.Answer.{findingOf};
+ghost use Rattle.floats.specs.Rule.{outcome, distributionFinding, distributionCall};
+ghost use Rattle.floats.specs.Answer.{numberTold};
+
+fn distribution_fault(
+    space: f32,
+    tracks: &[[f32; 5]],
+    affected: &[bool],
+    proportions: &[f32],
+    sizes: &[f32],
+    limits: &[f32],
+) -> Fault
+    ensures { λ r. ⌜ findingOf r ≡ distributionFinding space (now (tracks .entry)) (now (affected .entry)) (now (proportions .entry)) (now (sizes .entry)) (now (limits .entry)) ⌝ }
+{
+    let n = tracks.len();
+    if !five_fit(
+        n,
+        affected.len(),
+        proportions.len(),
+        sizes.len(),
+        limits.len(),
+    ) {
+        return Fault::Found(Refusal::Lengths);
+    }
+    let from_limits = slice_fault(1 + 7 * n, Kind::Limit, limits);
+    let from_sizes = slice_fault(1 + 6 * n, Kind::Size, sizes).first(from_limits);
+    let from_proportions = slice_fault(1 + 5 * n, Kind::Proportion, proportions).first(from_sizes);
+    let from_tracks = tracks_fault(1, tracks).first(from_proportions);
+    number_fault(0, Kind::Size, space).first(from_tracks)
+}
+
+// The space that is left. The tracks' incurred increases grow.
+pub fn distribute_space_up_to_limits(
+    space: f32,
+    tracks: &mut [[f32; 5]],
+    affected: &[bool],
+    proportions: &[f32],
+    sizes: &[f32],
+    limits: &[f32],
+) -> NumberAnswer
+    ensures { λ r. ⌜ outcome (numberTold r) (now (tracks .exit)) ≡ distributionCall space (now (tracks .entry)) (now (affected .entry)) (now (proportions .entry)) (now (sizes .entry)) (now (limits .entry)) ⌝ }
+{
+    let fault = distribution_fault(space, tracks, affected, proportions, sizes, limits);
+    match fault {
+        Fault::Found(refusal) => NumberAnswer::Refused(refusal),
+        Fault::Fine => {
+            NumberAnswer::Number(distribution::distribute_space_up_to_limits(
+                space,
+                tracks,
+                affected,
+                proportions,
+                sizes,
+                limits,
+            ))
+        }
+    }
+}

@@ -1,0 +1,53 @@
+// Maximise.
+use crate::answer::TracksAnswer;
+use domain::Fault;
+use domain::Kind;
+use domain::Refusal;
+use domain::number_fault;
+use domain::slice_fault;
+use domain::tracks_fault;
+use domain::two_fit;
+use float_track::AvailableSpace;
+ghost use mathlib.Core.Path.{_≡_};
+ghost use mathlib.Core.List.{[], _∷_};
+ghost use Rattle.domain.specs.Domain.{outsideFrom};
+ghost use Rattle.domain.specs.Answer.{findingOf};
+ghost use Rattle.floats.specs.Rule.{outcome, spaceNumber, maximiseFinding, maximiseCall};
+ghost use Rattle.floats.specs.Answer.{tracksTold};
+
+// A space that is not definite has no float to test.
+pub(crate) fn space_fault(index: usize, space: AvailableSpace) -> Fault
+    ensures { λ r. ⌜ findingOf r ≡ outsideFrom index (spaceNumber space ∷ []) ⌝ }
+{
+    match space {
+        AvailableSpace::Definite(x) => number_fault(index, Kind::Size, x),
+        AvailableSpace::MinContent => Fault::Fine,
+        AvailableSpace::MaxContent => Fault::Fine,
+    }
+}
+
+fn maximise_fault(tracks: &[[f32; 5]], fits: &[f32], space: AvailableSpace) -> Fault
+    ensures { λ r. ⌜ findingOf r ≡ maximiseFinding (now (tracks .entry)) (now (fits .entry)) space ⌝ }
+{
+    let n = tracks.len();
+    if !two_fit(n, fits.len()) {
+        return Fault::Found(Refusal::Lengths);
+    }
+    let from_fits = slice_fault(1 + 5 * n, Kind::Limit, fits);
+    let from_tracks = tracks_fault(1, tracks).first(from_fits);
+    space_fault(0, space).first(from_tracks)
+}
+
+// The base sizes grow. A track without a fit-content limit has +infinity for it.
+pub fn maximise_tracks(tracks: &mut [[f32; 5]], fits: &[f32], space: AvailableSpace) -> TracksAnswer
+    ensures { λ r. ⌜ outcome (tracksTold r) (now (tracks .exit)) ≡ maximiseCall (now (tracks .entry)) (now (fits .entry)) space ⌝ }
+{
+    let fault = maximise_fault(tracks, fits, space);
+    match fault {
+        Fault::Found(refusal) => TracksAnswer::Refused(refusal),
+        Fault::Fine => {
+            maximise::maximise_tracks(tracks, fits, space);
+            TracksAnswer::Sized
+        }
+    }
+}

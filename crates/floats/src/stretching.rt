@@ -1,0 +1,49 @@
+// Stretch.
+use crate::adjusting::size_fault;
+use crate::answer::TracksAnswer;
+use crate::maximising::space_fault;
+use domain::Fault;
+use domain::Refusal;
+use domain::tracks_fault;
+use domain::two_fit;
+use float_track::AvailableSpace;
+use float_track::OptionalSize;
+ghost use mathlib.Core.Path.{_≡_};
+ghost use Rattle.domain.specs.Answer.{findingOf};
+ghost use Rattle.floats.specs.Rule.{outcome, stretchFinding, stretchCall};
+ghost use Rattle.floats.specs.Answer.{tracksTold};
+
+fn stretch_fault(
+    tracks: &[[f32; 5]],
+    autos: &[bool],
+    minimum: OptionalSize,
+    space: AvailableSpace,
+) -> Fault
+    ensures { λ r. ⌜ findingOf r ≡ stretchFinding (now (tracks .entry)) (now (autos .entry)) minimum space ⌝ }
+{
+    if !two_fit(tracks.len(), autos.len()) {
+        return Fault::Found(Refusal::Lengths);
+    }
+    let from_tracks = tracks_fault(2, tracks);
+    let from_space = space_fault(1, space).first(from_tracks);
+    size_fault(0, minimum).first(from_space)
+}
+
+// The base sizes of the auto tracks grow.
+pub fn stretch_auto_tracks(
+    tracks: &mut [[f32; 5]],
+    autos: &[bool],
+    minimum: OptionalSize,
+    space: AvailableSpace,
+) -> TracksAnswer
+    ensures { λ r. ⌜ outcome (tracksTold r) (now (tracks .exit)) ≡ stretchCall (now (tracks .entry)) (now (autos .entry)) minimum space ⌝ }
+{
+    let fault = stretch_fault(tracks, autos, minimum, space);
+    match fault {
+        Fault::Found(refusal) => TracksAnswer::Refused(refusal),
+        Fault::Fine => {
+            stretch::stretch_auto_tracks(tracks, autos, minimum, space);
+            TracksAnswer::Sized
+        }
+    }
+}

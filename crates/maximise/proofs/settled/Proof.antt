@@ -1,0 +1,20 @@
+-- `settled` adds the incurred increase to the base size. Assumes nothing.
+use borrow.Author.Needs.{needs}
+use mathlib.Core.Path.{ap, _∙_}
+use Rattle.float_track.specs.declared.track.Track.{Track}
+use Rattle.float_track.specs.Track.{rowOf}
+use Rattle.maximise.specs.Maximise.{trackSettled}
+use Rattle.maximise.proofs.settled.Statement.{statement}
+use Rattle.maximise.proofs.settled.Tie as tie
+
+new-requires : tie.Need-new-requires
+new-requires c κs = search needs
+
+row-requires : tie.Need-row-requires
+row-requires c κs = search needs
+
+returns : tie.Need-returns
+returns c = c .row .ensures ∙ ap (λ (t : Track). rowOf (trackSettled t)) (c .before .before .new .ensures)
+
+pub settled-spec : {M : Type 1} → statement M
+settled-spec = tie.close (tie.spec new-requires row-requires returns)

@@ -9,13 +9,14 @@ use borrow.Author.Tests.{le-leb}
 use Rattle.kinds.specs.Kinds.{Row, spaceRow}
 use Rattle.kinds.specs.declared.space.Space.{Space}
 use Rattle.sheet.specs.Rule.{Fault, fine, fault, first, trackRecord, itemRecord, twoAt, tracksAt, itemsAt, Sheet, sheetAt, sheetFault, ReadTold, sheetRead, readRefused, ReadOutcome, onto, readFault, readAs, readCall}
-use Rattle.sheet.specs.Answer.{refusalFault, readTold, readLeaves, sheetOf, enoughRows}
-use Rattle.sheet.specs.declared.refusal.Refusal.{Refusal}
-use Rattle.sheet.specs.declared.refusal.Refusal.the-variants as sheet
+use Rattle.records.specs.Answer.{refusalFault}
+use Rattle.sheet.specs.Answer.{readTold, readLeaves, sheetOf, enoughRows}
+use Rattle.records.specs.declared.refusal.Refusal.{Refusal}
+use Rattle.records.specs.declared.refusal.Refusal.the-variants as sheet
 use Rattle.sheet.specs.declared.reading.ReadAnswer.{ReadAnswer}
 use Rattle.sheet.specs.declared.reading.ReadAnswer.the-variants as read
-use Rattle.sheet.proofs.Firsts.{first-fine, first-where}
-use Rattle.sheet.proofs.Stands.{length-rowsAt}
+use Rattle.records.proofs.Firsts.{first-fine, first-where}
+use Rattle.rows.proofs.Stands.{length-rowsAt}
 use Rattle.sheet.proofs.Accepted.{accepted}
 use Rattle.board.specs.Rule.{BoardOutcome, sizeFault, boardAs, boardCall}
 use Rattle.board.specs.Answer.{boardLeaves, own, ownAnswer}

@@ -11,7 +11,7 @@ use Rattle.kinds.specs.declared.space.Space.{Space}
 use Rattle.lines.specs.Rule.{Board}
 use Rattle.sheet.specs.Rule.{fine}
 use Rattle.sheet.specs.Answer.{sheetOf}
-use Rattle.sheet.proofs.KindRows.{space-of-row}
+use Rattle.rows.proofs.KindRows.{space-of-row}
 use Rattle.checks.specs.Rule.{recordFault}
 use Rattle.checks.specs.Answer as checks
 use Rattle.checks.specs.declared.refusal.Refusal as check

@@ -5,7 +5,7 @@ use mathlib.Core.Bool.{cond}
 use Prim.Native.Nat.{ℕ}
 use lib.Dec.{eqb}
 use Rattle.lines.specs.Rule.{FreeTold, none, dots}
-use Rattle.sheet.specs.declared.refusal.Refusal.the-variants as sheet
+use Rattle.records.specs.declared.refusal.Refusal.the-variants as sheet
 use Rattle.checks.specs.declared.refusal.Refusal.the-variants as checks
 use Rattle.sizing.specs.Size.{freeTold}
 use Rattle.sizing.specs.declared.free.Free.{Free}

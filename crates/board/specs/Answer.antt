@@ -3,8 +3,8 @@
 use Prim.Native.Nat.{ℕ}
 use mathlib.Core.List.{List}
 use Rattle.kinds.specs.Kinds.{Row}
-use Rattle.sheet.specs.Answer as sheet
-use Rattle.sheet.specs.declared.refusal.Refusal.the-variants as refusals
+use Rattle.records.specs.Answer as records
+use Rattle.records.specs.declared.refusal.Refusal.the-variants as refusals
 use Rattle.checks.specs.Answer as checks
 use Rattle.sizing.specs.Size.{freeTold}
 use Rattle.board.specs.Rule.{BoardTold, board, refused, BoardOutcome, boardOutcome}
@@ -14,12 +14,12 @@ use Rattle.board.specs.declared.BoardAnswer.{BoardAnswer}
 use Rattle.board.specs.declared.BoardAnswer.the-variants as answer
 
 abbrev pub numberOf : Refusal → ℕ
-numberOf (Sheet refusal) = sheet.numberOf refusal
+numberOf (Sheet refusal) = records.numberOf refusal
 numberOf TooFewPlaces = 6
 numberOf (Record refusal) = checks.numberOf refusal
 
 abbrev pub placeOf : Refusal → ℕ
-placeOf (Sheet refusal) = sheet.placeOf refusal
+placeOf (Sheet refusal) = records.placeOf refusal
 placeOf TooFewPlaces = 0
 placeOf (Record refusal) = checks.placeOf refusal
 

@@ -12,7 +12,7 @@ use Rattle.kinds.specs.declared.track.Minimum.the-variants as minimum
 use Rattle.kinds.specs.declared.track.Maximum.the-variants as maximum
 use Rattle.kinds.specs.declared.track.Track.{Track}
 use Rattle.kinds.specs.declared.item.Item.{Item}
-use Rattle.sheet.specs.Rule.{Fault, fine, fault}
+use Rattle.records.specs.Rule.{Fault, fine, fault}
 use Rattle.checks.specs.Rule.{lowest, firstOf, recordFault}
 use mathlib.Core.Bool.{false}
 

@@ -8,7 +8,7 @@ use native.Mathlib.Omega.{arith}
 use mathlib.Core.List.{List, [], _∷_}
 use lib.ListN.{length, getD}
 use Rattle.laws.specs.Lists.{All}
-use Rattle.sheet.specs.Rule.{Fault, fine, fault}
+use Rattle.records.specs.Rule.{Fault, fine, fault}
 use Rattle.checks.specs.Rule.{lowest}
 
 -- a test that passed is a fault, so none passed

@@ -7,7 +7,7 @@ use native.Mathlib.Nat.{add-assoc, add-zero}
 use mathlib.Core.List.{List, map}
 use lib.ListN.{length, getD, drop, drop-of-length-le, length-map, List·getD-map}
 use Rattle.laws.specs.Walk.{next}
-use Rattle.sheet.specs.Rule.{Fault, fine, fault}
+use Rattle.records.specs.Rule.{Fault, fine, fault}
 use Rattle.checks.specs.Rule.{lowest}
 
 module _ {A B : Type 0} (number : ℕ) (bad : B → Bool) (f : A → B) (from : ℕ) (xs : List A) where

@@ -23,8 +23,8 @@ use Rattle.kinds.specs.declared.track.Track.{Track}
 use Rattle.kinds.specs.declared.item.ContributionKind.{ContributionKind}
 use Rattle.kinds.specs.declared.item.ContributionKind.the-variants as kind
 use Rattle.kinds.specs.declared.item.Item.{Item}
-use Rattle.sheet.specs.Rule.{fine, fault, first}
-use Rattle.sheet.proofs.Firsts.{fine-both}
+use Rattle.records.specs.Rule.{fine, fault, first}
+use Rattle.records.proofs.Firsts.{fine-both}
 use Rattle.checks.specs.Rule.{mostSize, mostContribution, amountOver, constraintOver, minimumOver, maximumOver, spaceOver, trackOver, itemOver, isOutside, lowestSpace, lowestTrack, lowestItem, firstOf, recordFault}
 use Rattle.checks.specs.Sound.{mostOf, SpaceFits, TrackFits, ItemFits, Sound}
 use Rattle.checks.proofs.LowestRecord.{false-of-fine, none-of-fine}

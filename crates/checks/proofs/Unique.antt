@@ -3,7 +3,7 @@ use mathlib.Core.Path.{_≡_, refl, sym, ap, _∙_}
 use mathlib.Core.Bool.{cond}
 use Prim.Native.Nat.{ℕ}
 use lib.Dec.{eqb}
-use Rattle.sheet.specs.Rule.{Fault, fine, fault}
+use Rattle.records.specs.Rule.{Fault, fine, fault}
 use Rattle.checks.specs.Answer.{numberOf, placeOf, faultOf}
 use Rattle.checks.specs.declared.refusal.Refusal.{Refusal}
 use Rattle.checks.specs.declared.refusal.Refusal.the-variants.{NumberOver, OutsideTracks, ContributionMissing, RowFalls, CrossesFr}

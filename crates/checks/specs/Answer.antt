@@ -8,7 +8,7 @@ use Rattle.kinds.specs.declared.item.Item.{Item}
 use Rattle.checks.specs.Rule.{itemOver, isOutside, isLacking, isFalling, isCrossing}
 use Rattle.checks.specs.declared.item_check.ItemCheck.{ItemCheck}
 use Rattle.checks.specs.declared.item_check.ItemCheck.the-variants.{Over, Outside, Lacking, Falling, Crossing}
-use Rattle.sheet.specs.Rule.{Fault, fine, fault}
+use Rattle.records.specs.Rule.{Fault, fine, fault}
 use Rattle.checks.specs.declared.refusal.Refusal.{Refusal}
 use Rattle.checks.specs.declared.refusal.Refusal.the-variants.{NumberOver, OutsideTracks, ContributionMissing, RowFalls, CrossesFr}
 use Rattle.checks.specs.declared.refusal.Fault as found

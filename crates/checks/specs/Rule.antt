@@ -21,7 +21,7 @@ use Rattle.kinds.specs.declared.track.Track.{Track}
 use Rattle.kinds.specs.declared.item.ContributionKind.{ContributionKind}
 use Rattle.kinds.specs.declared.item.ContributionKind.the-variants as kind
 use Rattle.kinds.specs.declared.item.Item.{Item}
-use Rattle.sheet.specs.Rule.{Fault, fine, fault, first}
+use Rattle.records.specs.Rule.{Fault, fine, fault, first}
 
 -- ---- Limits
 

@@ -9,7 +9,7 @@ use kinds::ContributionKind;
 use kinds::Item;
 ghost use mathlib.Core.Path.{_≡_};
 ghost use mathlib.Core.List.{map};
-ghost use Rattle.sheet.specs.Rule.{fault};
+ghost use Rattle.records.specs.Rule.{fault};
 ghost use Rattle.kinds.specs.Kinds.{trackOf};
 ghost use Rattle.checks.specs.Rule.{lacksContribution};
 ghost use Rattle.checks.specs.Answer.{refusalFault, checkNumber, failsOf};

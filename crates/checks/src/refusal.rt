@@ -1,6 +1,6 @@
 // What refuses a board, named by what is wrong with its lowest record at fault, and the paper's number and place of each.
 ghost use mathlib.Core.Path.{_≡_};
-ghost use Rattle.sheet.specs.Rule.{first};
+ghost use Rattle.records.specs.Rule.{first};
 ghost use Rattle.checks.specs.Answer.{numberOf, placeOf, faultOf};
 
 pub enum Refusal {

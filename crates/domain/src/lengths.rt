@@ -1,16 +1,14 @@
 // 12: the slices of a call are of one length, at most that of the longest board.
+use float_track::Track;
 ghost use mathlib.Core.Path.{_≡_};
 ghost use mathlib.Core.List.{[], _∷_};
 ghost use Rattle.domain.specs.Domain.{lengthsFit};
-
-// The most tracks of a board.
-const MOST_TRACKS: usize = 256;
 
 pub fn two_fit(n: usize, other: usize) -> bool
     ensures { λ r. ⌜ r ≡ lengthsFit n (other ∷ []) ⌝ }
 {
     if other == n {
-        return n <= MOST_TRACKS;
+        return n <= Track::MOST;
     }
     false
 }

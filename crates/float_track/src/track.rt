@@ -12,6 +12,8 @@ pub struct Track {
 }
 
 impl Track {
+    // The most tracks of a call.
+    pub const MOST: usize = 256;
     // Space at or below this is not worth handing out, and a track may pass its limit by as much.
     pub const THRESHOLD: f32 = 0.01;
 

@@ -55,5 +55,5 @@ gutter-count inner known estimates h =
     let lengths = lengthsFinding (length known) (length estimates ∷ []) in
     record {
       enough = counted (length known) (passed-of-fine (isGutterCount (length known)) 14 0 (first-fine count rest (first-fine lengths (first count rest) h .1) .0));
-      few = lengths-fit-le (length known) (length estimates ∷ []) (lengths-of-fine (length known) (length estimates ∷ []) (first count rest) h)
+      few = lengths-fit-le (length known) (length estimates ∷ []) (lengths-of-fine (length known) (length estimates ∷ []) (first count rest) h);
     }

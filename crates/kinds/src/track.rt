@@ -92,8 +92,6 @@ impl Track {
     pub const MOST_SIZE: u32 = 65_535;
     // The largest flex factor, in thousandths.
     pub const MOST_FACTOR: u32 = 100_000;
-    // What the float routines take for nothing.
-    pub const THRESHOLD: f32 = 0.01;
 
     // The track that a row says; one without fault says no other.
     pub fn of_row(row: [u32; 4]) -> Track

@@ -8,13 +8,14 @@ use lib.Dec.{leb}
 use lib.ListN.{length, drop}
 use borrow.Author.Tests.{leb-true, eqb-true}
 use Rattle.fill.specs.Rule.{mostTracks}
+use Rattle.rows.specs.Shapes.{AreBytes}
+use Rattle.records.proofs.Firsts.{fine-both, fine-test}
+use Rattle.rows.proofs.Stands.{Stands, stands-join, two-stands, rows-stand, length-rowsAt, width, width-rowAt}
+use Rattle.rows.proofs.KindRows.{row-of-space}
 use Rattle.sheet.specs.Rule.{Part, recordSize, spaceRecord, rowAt, rowsAt, twoAt, fine, wholeTo, rowFault, recordsFault, Section, countFault, sectionFault, sectionEnd, spaceSection, trackSection, itemSection, mostItems, tracksAt, itemsAt, sheetEnd, sheetFault}
 use Rattle.kinds.specs.Kinds.{spaceRow, spaceOf}
 use Rattle.sheet.specs.Content.{sectionBytes}
-use Rattle.sheet.specs.RoundTrip.{AreBytes}
-use Rattle.sheet.proofs.Firsts.{fine-both, fine-test, fine-whole}
-use Rattle.sheet.proofs.Stands.{Stands, stands-join, two-stands, rows-stand, length-rowsAt, width, width-rowAt}
-use Rattle.sheet.proofs.KindRows.{row-of-space}
+use Rattle.sheet.proofs.Looks.{fine-whole}
 
 -- records without fault are wholly there
 records-whole : (parts : List Part) (bytes : List ℕ) (n p : ℕ) → p ≤ length bytes → recordsFault parts bytes n p ≡ fine → p + n * recordSize parts ≤ length bytes

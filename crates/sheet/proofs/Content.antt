@@ -7,16 +7,17 @@ use mathlib.Core.List.{List, [], _∷_, _++_, append-assoc, append-nil}
 use lib.ListN.{length, getD, length-append}
 use borrow.Author.Tests.{le-leb, leb-true}
 use Rattle.fill.specs.Rule.{mostTracks}
+use Rattle.rows.specs.Shapes.{EachLong}
+use Rattle.records.proofs.Firsts.{first-fine, first-where, fine-both, le-of-count-fine}
+use Rattle.rows.proofs.Stands.{Stands, stands-front, stands-next, width}
+use Rattle.rows.proofs.KindRows.{space-fine}
 use Rattle.sheet.specs.Rule.{Row, recordSize, rowAt, rowsAt, rowFault, rowsBytes, spaceRecord, trackRecord, itemRecord, spaceSection, trackSection, itemSection, twoAt, tracksAt, itemsAt, sheetEnd, Sheet, sheetBytes, sheetAt, sheetFault, sectionFault, overFault, mostItems, Fault, first, fine}
 use Rattle.sheet.specs.Answer.{sheetOf}
 use Rattle.sheet.specs.Content.{rowsFault, sectionBytes, tracksFault, itemsFault, itemsAfter, sheetSize, contentFault, Looked}
-use Rattle.sheet.specs.RoundTrip.{EachLong, Shaped}
+use Rattle.sheet.specs.RoundTrip.{Shaped}
 use Rattle.kinds.specs.declared.space.Space.{Space}
-use Rattle.sheet.proofs.Firsts.{first-fine, first-where, fine-both, le-of-count-fine}
-use Rattle.sheet.proofs.Stands.{Stands, stands-front, stands-next, width}
 use Rattle.sheet.proofs.Looked.{looked-of-long, long-of-looked}
 use Rattle.sheet.proofs.SectionBytes.{length-sectionBytes, section-count, section-rows, section-end, section-fault}
-use Rattle.sheet.proofs.KindRows.{space-fine}
 
 -- a sheet's bytes are those of its three sections
 pub sections-of-sheet : (sheet : Sheet) → sheetBytes sheet ≡ sectionBytes spaceRecord (sheet .space ∷ []) ++ (sectionBytes trackRecord (sheet .tracks) ++ sectionBytes itemRecord (sheet .items))

@@ -10,7 +10,7 @@ use lib.Seq.{length-take-le, getD-take}
 use borrow.Author.Tests.{le-leb}
 use Rattle.fill.specs.Rule.{mostTracks}
 use Rattle.sheet.specs.Rule.{byteAt, twoAt, fine, fault, first, unless, recordSize, trackRecord, itemRecord, mostItems, tracksAt, itemsAt, sheetEnd, sheetFault, EndTold, endAt, endAs, endCall}
-use Rattle.sheet.proofs.Firsts.{whole-fine}
+use Rattle.sheet.proofs.Looks.{whole-fine}
 use Rattle.sheet.proofs.Accepted.{accepted}
 
 pub accepted-ends : (bytes : List ℕ) → sheetFault bytes ≡ fine → sheetEnd bytes ≡ length bytes

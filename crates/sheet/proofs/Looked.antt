@@ -3,11 +3,11 @@ use mathlib.Core.Path.{_≡_}
 use Prim.Native.Nat.{ℕ, zero, suc, _+_}
 use native.Mathlib.Nat.{not-suc-le-zero, le-of-suc-le-suc}
 use mathlib.Core.List.{List, [], _∷_}
+use Rattle.rows.specs.Shapes.{EachLong}
+use Rattle.records.proofs.Firsts.{fine-both}
+use Rattle.rows.proofs.Stands.{long-first, long-next}
 use Rattle.sheet.specs.Rule.{Part, Row, recordSize, fine, rowFault}
 use Rattle.sheet.specs.Content.{rowsFault, LookedAt}
-use Rattle.sheet.specs.RoundTrip.{EachLong}
-use Rattle.sheet.proofs.Firsts.{fine-both}
-use Rattle.sheet.proofs.Stands.{long-first, long-next}
 
 module _ (n : ℕ) (parts : List Part) where
   pub looked-of-long : (rows : List Row) (p : ℕ) → EachLong n rows → LookedAt n parts rows p

@@ -8,11 +8,11 @@ use native.Mathlib.Omega.{arith}
 use mathlib.Core.List.{List}
 use lib.Dec.{leb}
 use lib.ListN.{length}
-use borrow.Author.Tests.{not-true, not-false, leb-true}
+use borrow.Author.Tests.{not-true, not-false, leb-true, le-leb}
 use Rattle.laws.specs.Tests.{never}
+use Rattle.records.specs.Answer.{isFine}
+use Rattle.records.proofs.Firsts.{first-assoc, fine-both, fine-test}
 use Rattle.sheet.specs.Rule.{Part, recordSize, rowAt, Fault, fine, fault, first, wholeTo, rowFault, recordsFault}
-use Rattle.sheet.specs.Answer.{isFine}
-use Rattle.sheet.proofs.Firsts.{first-assoc, fine-both, fine-whole, whole-fine}
 
 -- ---- a look x that found f, and the test b of whether that is no fault
 
@@ -42,6 +42,12 @@ pub first-of-fine : (f g : Fault) → f ≡ fine → g ≡ first f g
 first-of-fine f g e = rw e
 
 -- ---- bytes that reach to a place, or do not
+
+pub whole-fine : (bytes : List ℕ) (to : ℕ) → to ≤ length bytes → wholeTo bytes to ≡ fine
+whole-fine bytes to h = rw (le-leb to (length bytes) h)
+
+pub fine-whole : (bytes : List ℕ) (to : ℕ) → wholeTo bytes to ≡ fine → to ≤ length bytes
+fine-whole bytes to e = leb-true _ _ (fine-test (leb to (length bytes)) _ _ e)
 
 module _ (bytes : List ℕ) (to : ℕ) {b : Bool} (is : b ≡ leb to (length bytes)) where
   pub short-of-test : not b ≡ true → (g : Fault) → fault 1 (length bytes) ≡ first (wholeTo bytes to) g

@@ -5,15 +5,16 @@ use mathlib.Core.List.{List}
 use lib.Dec.{leb}
 use lib.ListN.{length}
 use borrow.Author.Tests.{leb-true}
-use Rattle.sheet.specs.Rule.{Row, spaceRecord, trackRecord, itemRecord, rowAt, rowsAt, twoAt, Fault, fine, countFault, trackSection, itemSection, spaceSection, tracksAt, itemsAt, sheetEnd, Sheet, sheetAt, sheetFault, enough, onto, readFault, readAs, readCall, endCall}
+use Rattle.records.specs.Answer.{refusalFault}
+use Rattle.records.specs.declared.refusal.Refusal.{Refusal}
+use Rattle.records.proofs.Firsts.{fine-both, fine-test}
+use Rattle.rows.proofs.Stands.{length-rowsAt}
+use Rattle.sheet.specs.Rule.{Row, spaceRecord, trackRecord, itemRecord, rowAt, rowsAt, twoAt, Fault, fine, countFault, trackSection, itemSection, spaceSection, tracksAt, itemsAt, sheetEnd, Sheet, sheetAt, sheetFault, enough, onto, readFault, readAs, readCall, countsFault, endCall}
 use Rattle.kinds.specs.Kinds.{spaceRow, spaceOf}
-use Rattle.sheet.specs.Answer.{refusalFault, countsFault, readLeaves, endTold}
+use Rattle.sheet.specs.Answer.{readLeaves, endTold}
 use Rattle.kinds.specs.declared.space.Space.{Space}
-use Rattle.sheet.specs.declared.refusal.Refusal.{Refusal}
 use Rattle.sheet.specs.declared.reading.ReadAnswer.the-variants as answer
 use Rattle.sheet.specs.declared.EndAnswer.the-variants as end
-use Rattle.sheet.proofs.Firsts.{fine-both, fine-test}
-use Rattle.sheet.proofs.Stands.{length-rowsAt}
 use Rattle.sheet.proofs.Accepted.{Accepted, accepted, count-fine, space-row-of-accepted}
 
 -- ---- reading

@@ -6,10 +6,11 @@ use Prim.Native.Nat.{ℕ, _+_, _≤_}
 use mathlib.Core.List.{List, [], _∷_}
 use lib.ListN.{length, drop, drop-of-length-le}
 use borrow.Author.Tests.{le-leb}
+use Rattle.rows.specs.Shapes.{AreBytes}
+use Rattle.rows.proofs.Stands.{Stands, stands-whole, stands-join, width, width-rowAt, width-rowsAt}
 use Rattle.sheet.specs.Rule.{Row, recordSize, spaceRecord, trackRecord, itemRecord, spaceSection, trackSection, itemSection, twoAt, rowAt, rowsAt, tracksAt, itemsAt, Sheet, sheetAt, sheetBytes, Fault, fine, fault, sheetFault, readFault, readAs, readRefused, readSheet, readCall, writeFault, writeAs, writeRefused, writeOutcome, sheetWritten, onto, writeCall}
 use Rattle.sheet.specs.Content.{sectionBytes}
-use Rattle.sheet.specs.RoundTrip.{AreBytes, Shaped}
-use Rattle.sheet.proofs.Stands.{Stands, stands-whole, stands-join, width, width-rowAt, width-rowsAt}
+use Rattle.sheet.specs.RoundTrip.{Shaped}
 use Rattle.sheet.proofs.Content.{sections-of-sheet, written-fault, track-count, item-count, shaped-reads-back}
 use Rattle.sheet.proofs.RowFaults.{number-of-rows, of-sheet}
 use Rattle.sheet.proofs.Accepted.{accepted, section-stands}

@@ -8,8 +8,8 @@ use mathlib.Core.List.{List, _∷_, _++_}
 use lib.ListN.{length, take, drop, set, length-set, take-append-drop}
 use lib.Seq.{drop-set-lt}
 use Rattle.laws.specs.Walk.{written}
+use Rattle.rows.proofs.Stands.{length-rowsAt}
 use Rattle.sheet.specs.Rule.{Part, Row, recordSize, rowAt, rowsAt, onto}
-use Rattle.sheet.proofs.Stands.{length-rowsAt}
 
 module _ (parts : List Part) (bytes : List ℕ) (from count : ℕ) (rows₀ : List Row) where
   -- i records have been read, and the next stands at `place`

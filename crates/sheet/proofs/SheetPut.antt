@@ -5,13 +5,13 @@ use native.Mathlib.Omega.{arith}
 use mathlib.Core.List.{List, _++_, append-assoc}
 use lib.ListN.{length, length-append}
 use Rattle.laws.specs.Put.{put, put-then, put-front}
+use Rattle.rows.specs.Shapes.{EachLong}
+use Rattle.rows.proofs.Stands.{width}
 use Rattle.sheet.specs.Rule.{Row, recordSize, spaceRecord, trackRecord, itemRecord, twoBytes, fourBytes, rowBytes, tracksAt, sheetBytes, onto}
 use Rattle.kinds.specs.Kinds.{spaceRow}
 use Rattle.sheet.specs.Answer.{sheetOf}
 use Rattle.sheet.specs.Content.{sectionBytes, itemsAfter}
-use Rattle.sheet.specs.RoundTrip.{EachLong}
 use Rattle.kinds.specs.declared.space.Space.{Space}
-use Rattle.sheet.proofs.Stands.{width}
 use Rattle.sheet.proofs.SectionBytes.{length-sectionBytes}
 
 module _ (space : Space) (tracks items : List Row) where

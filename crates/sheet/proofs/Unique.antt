@@ -3,19 +3,20 @@ use mathlib.Core.Path.{_≡_, refl, sym, ap, _∙_}
 use mathlib.Core.Bool.{cond}
 use Prim.Native.Nat.{ℕ}
 use lib.Dec.{eqb}
+use Rattle.records.specs.Answer.{numberOf, placeOf}
+use Rattle.records.specs.declared.refusal.Refusal.{Refusal}
+use Rattle.records.specs.declared.refusal.Refusal.the-variants.{Short, BytesOver, Count, Tag, StrayNumber, TooFewPlaces}
+use Rattle.rows.proofs.KindRows.{space-of-row}
 use Rattle.sheet.specs.Rule.{ReadTold, sheetRead, readRefused, WriteTold, sheetWritten, writeRefused, EndTold, endAt, endRefused}
 use Rattle.kinds.specs.Kinds.{spaceOf}
-use Rattle.sheet.specs.Answer.{numberOf, placeOf, readTold, writeTold, endTold}
+use Rattle.sheet.specs.Answer.{readTold, writeTold, endTold}
 use Rattle.kinds.specs.declared.space.Space.{Space}
-use Rattle.sheet.specs.declared.refusal.Refusal.{Refusal}
-use Rattle.sheet.specs.declared.refusal.Refusal.the-variants.{Short, BytesOver, Count, Tag, StrayNumber, TooFewPlaces}
 use Rattle.sheet.specs.declared.reading.ReadAnswer.{ReadAnswer}
 use Rattle.sheet.specs.declared.reading.ReadAnswer.the-variants as read
 use Rattle.sheet.specs.declared.writing.WriteAnswer.{WriteAnswer}
 use Rattle.sheet.specs.declared.writing.WriteAnswer.the-variants as write
 use Rattle.sheet.specs.declared.EndAnswer.{EndAnswer}
 use Rattle.sheet.specs.declared.EndAnswer.the-variants as end
-use Rattle.sheet.proofs.KindRows.{space-of-row}
 
 -- what can be made again is told apart
 same-of-made-again : {A B : Type 0} (f : A → B) (g : B → A) → ((a : A) → g (f a) ≡ a) → (a b : A) → f a ≡ f b → a ≡ b

@@ -6,13 +6,14 @@ use mathlib.Core.List.{List}
 use lib.Dec.{leb}
 use lib.ListN.{length}
 use borrow.Author.Tests.{leb-true}
+use Rattle.records.specs.Answer.{refusalFault}
+use Rattle.records.specs.declared.refusal.Refusal.{Refusal}
+use Rattle.records.proofs.Firsts.{first-where, fine-both, fine-test}
 use Rattle.sheet.specs.Rule.{Row, Fault, fine, first, enough, sheetBytes, onto, sheetWritten, writeOutcome, writeFault, writeAs, writeCall}
-use Rattle.sheet.specs.Answer.{refusalFault, sheetOf, writeLeaves}
+use Rattle.sheet.specs.Answer.{sheetOf, writeLeaves}
 use Rattle.sheet.specs.Content.{contentFault, sheetSize, Looked, Writable}
 use Rattle.kinds.specs.declared.space.Space.{Space}
-use Rattle.sheet.specs.declared.refusal.Refusal.{Refusal}
 use Rattle.sheet.specs.declared.writing.WriteAnswer.the-variants as answer
-use Rattle.sheet.proofs.Firsts.{first-where, fine-both, fine-test}
 use Rattle.sheet.proofs.Content.{content-fault, content-size, tracks-long, items-long}
 
 module _ (space : Space) (tracks items : List Row) (lent : List ℕ) (looked : Looked tracks items) where

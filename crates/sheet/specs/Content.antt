@@ -6,8 +6,8 @@ use mathlib.Core.List.{List, [], _∷_, _++_}
 use lib.Dec.{leb}
 use lib.ListN.{length}
 use Rattle.fill.specs.Rule.{mostTracks}
+use Rattle.rows.specs.Shapes.{EachLong}
 use Rattle.sheet.specs.Rule.{Part, Row, recordSize, twoBytes, rowsBytes, rowFault, trackRecord, itemRecord, mostItems, tracksAt, Fault, fine, fault, first, unless}
-use Rattle.sheet.specs.RoundTrip.{EachLong}
 
 -- rows whose records stand one after another from a place
 unfoldable pub rowsFault : List Part → List Row → ℕ → Fault

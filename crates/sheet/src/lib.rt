@@ -1,10 +1,7 @@
-// The sheet: its bytes are met here and nowhere else (specs/Rule.antt is the rule, docs/SHEET.md the format in words).
-mod numbers;
+// The sheet: its bytes are met here and, record by record, in `rows` and `records` below it, and nowhere else (specs/Rule.antt is the
+// rule, docs/SHEET.md the format in words).
 mod reading;
-mod refusal;
-mod rows;
 mod sections;
-mod tags;
 mod writing;
 
 pub use kinds::Amount;
@@ -18,8 +15,8 @@ pub use kinds::Space;
 pub use kinds::Track;
 pub use reading::ReadAnswer;
 pub use reading::read;
-use refusal::Fault;
-pub use refusal::Refusal;
+use records::Fault;
+pub use records::Refusal;
 pub use writing::WriteAnswer;
 pub use writing::write;
 ghost use mathlib.Core.Path.{_≡_};

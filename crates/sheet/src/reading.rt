@@ -1,18 +1,18 @@
 // Reading: a sheet's bytes to the space and to lent rows. No row is written before every refusal has been ruled out.
-use crate::numbers::two_at;
-use crate::refusal::Fault;
-use crate::refusal::Refusal;
-use crate::rows;
 use crate::sections;
 use crate::sections::COUNT_SIZE;
 use crate::sections::SPACE_AT;
 use crate::sections::TRACKS_AT;
 use kinds::Space;
+use records::Fault;
+use records::Refusal;
+use records::numbers::two_at;
 ghost use mathlib.Core.Path.{_≡_};
 ghost use Prim.Native.Nat.{_+_, _*_, _≤_};
 ghost use lib.ListN.{length};
+ghost use Rattle.records.specs.Answer.{faultOf};
 ghost use Rattle.sheet.specs.Rule.{trackRecord, itemRecord, rowsAt, sheetFault, first, onto, readCall};
-ghost use Rattle.sheet.specs.Answer.{faultOf, enoughRows, readLeaves};
+ghost use Rattle.sheet.specs.Answer.{enoughRows, readLeaves};
 
 pub enum ReadAnswer {
     Sheet {

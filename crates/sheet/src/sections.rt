@@ -1,16 +1,16 @@
 // The sections of a sheet, front to back: what is wrong with each, and where each stands.
-use crate::numbers::two_at;
-use crate::refusal::Fault;
-use crate::refusal::Refusal;
-use crate::rows;
 use kinds::Item;
 use kinds::Track;
+use records::Fault;
+use records::Refusal;
+use records::numbers::two_at;
 ghost use mathlib.Core.Path.{_≡_};
 ghost use Prim.Native.Nat.{_+_, _≤_};
 ghost use lib.Dec.{leb};
 ghost use lib.ListN.{length};
-ghost use Rattle.sheet.specs.Rule.{recordSize, rowAt, rowFault, recordsFault, first, wholeTo, countFault, sectionFault, tracksAt, itemsAt, sheetEnd, sheetFault};
-ghost use Rattle.sheet.specs.Answer.{faultOf, sectionOf, partsOf, countsFault};
+ghost use Rattle.records.specs.Answer.{faultOf};
+ghost use Rattle.sheet.specs.Rule.{recordSize, rowAt, rowFault, recordsFault, first, wholeTo, countFault, sectionFault, tracksAt, itemsAt, sheetEnd, sheetFault, countsFault};
+ghost use Rattle.sheet.specs.Answer.{sectionOf, partsOf};
 
 // The bytes of a count.
 pub(crate) const COUNT_SIZE: usize = 2;

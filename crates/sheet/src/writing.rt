@@ -1,23 +1,23 @@
 // Writing: the space and rows to lent bytes. No byte is written before every refusal has been ruled out.
-use crate::numbers::put_two;
-use crate::refusal::Fault;
-use crate::refusal::Refusal;
-use crate::rows;
 use crate::sections::COUNT_SIZE;
 use crate::sections::SPACE_AT;
 use crate::sections::TRACKS_AT;
 use kinds::Item;
 use kinds::Space;
 use kinds::Track;
+use records::Fault;
+use records::Refusal;
+use records::numbers::put_two;
 ghost use mathlib.Core.Path.{_≡_};
 ghost use Prim.Native.Nat.{_+_, _*_, _≤_};
 ghost use lib.ListN.{length};
 ghost use Rattle.laws.specs.Put.{put};
 ghost use Rattle.fill.specs.Rule.{mostTracks};
+ghost use Rattle.records.specs.Answer.{faultOf, lastPlace};
+ghost use Rattle.rows.specs.Shapes.{EachLong};
 ghost use Rattle.sheet.specs.Rule.{trackRecord, itemRecord, rowsBytes, mostItems, tracksAt, sheetBytes, fine, first, enough, onto, writeCall};
-ghost use Rattle.sheet.specs.Answer.{faultOf, lastPlace, sheetOf, writeLeaves};
+ghost use Rattle.sheet.specs.Answer.{sheetOf, writeLeaves};
 ghost use Rattle.sheet.specs.Content.{rowsFault, tracksFault, itemsFault, contentFault, itemsAfter, sheetSize, sectionBytes, LookedAt, TracksLooked, ItemsLooked, Looked, Writable};
-ghost use Rattle.sheet.specs.RoundTrip.{EachLong};
 
 pub enum WriteAnswer {
     Written { length: usize },

@@ -5,7 +5,7 @@ use Prim.Native.Nat.{ℕ}
 use mathlib.Core.List.{List}
 use Rattle.sheet.specs.Rule.{Row, ReadTold, sheetRead, readOutcome, WriteTold, writeOutcome, writeCall}
 use Rattle.sheet.specs.Answer.{readTold, writeTold, endTold}
-use Rattle.sheet.specs.declared.refusal.Refusal.{Refusal}
+use Rattle.records.specs.declared.refusal.Refusal.{Refusal}
 use Rattle.sheet.specs.declared.reading.ReadAnswer.{ReadAnswer}
 use Rattle.sheet.specs.declared.reading.ReadAnswer.the-variants as read
 use Rattle.sheet.specs.declared.writing.WriteAnswer.{WriteAnswer}

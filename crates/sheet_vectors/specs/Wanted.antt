@@ -4,9 +4,9 @@ use mathlib.Core.Path.{_≡_}
 use Prim.Native.Nat.{ℕ}
 use mathlib.Core.Bool.{Bool, true, false}
 use mathlib.Core.List.{List}
-use Rattle.sheet.specs.Answer.{numberOf, placeOf}
+use Rattle.records.specs.Answer.{numberOf, placeOf}
 use Rattle.sheet.specs.Rule.{Row, Sheet, ReadTold, sheetRead, readRefused, WriteTold, sheetWritten, writeRefused, EndTold, endAt, endRefused}
-use Rattle.sheet.specs.declared.refusal.Refusal.{Refusal}
+use Rattle.records.specs.declared.refusal.Refusal.{Refusal}
 
 -- the refusal has the number and the place that a case wants
 pub record Refuses (refusal : Refusal) (isRefusal : Bool) (number place : ℕ) : Type 0 where

@@ -1,7 +1,7 @@
 -- `end` tells where the sheet ends by its counts, or what is wrong with these. Assumes nothing.
 use borrow.Author.Needs.{needs}
+use Rattle.records.specs.Answer.{faultOf}
 use Rattle.sheet.proofs.ReadCall.{end-refused, end-done, counts-whole}
-use Rattle.sheet.specs.Answer.{faultOf}
 use mathlib.Core.Path.{sym, ap, _∙_}
 use Rattle.sheet.proofs.end.Statement.{statement}
 use Rattle.sheet.proofs.end.Tie as tie

@@ -8,7 +8,7 @@ use Prim.Native.Nat.{_+_, _-_, _≤_, ℕ}
 use lib.ListN.{length, length-map}
 use Rattle.kinds.specs.Kinds.{Row, trackOf, itemOf}
 use Rattle.kinds.specs.declared.item.Item.{Item}
-use Rattle.sheet.specs.Rule.{Fault}
+use Rattle.records.specs.Rule.{Fault}
 use Rattle.checks.specs.declared.item_check.ItemCheck.{ItemCheck}
 use Rattle.checks.specs.Answer.{checkNumber, failsOf}
 use Rattle.checks.specs.Rule.{lowest, lowestItem}

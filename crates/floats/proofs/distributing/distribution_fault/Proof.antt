@@ -72,14 +72,14 @@ returns-2 c =
     let fit = sym (c .before .before .before .before .before .before .before .before .before .before .five-fit .ensures) ∙ not-false _ (c .before .before .before .before .before .before .before .before .before .if1 .left) in
     let same = one-length (a .affected .now) (a .proportions .now) (a .sizes .now) (a .limits .now) n fit in
     let from-sizes =
-        outside-both (1 + 6 * n) (1 + 7 * n) (numbersOf Size (a .sizes .now)) (numbersOf Limit (a .limits .now)) (c .before .before .before .before .before .before .first .ensures) (c .before .before .before .before .before .before .before .slice-fault2 .ensures) (c .before .before .before .before .before .before .before .before .slice-fault .ensures)
-        (omega (arith, length-numbers-of Size (a .sizes .now), same .sizes)) in
+    outside-both (1 + 6 * n) (1 + 7 * n) (numbersOf Size (a .sizes .now)) (numbersOf Limit (a .limits .now)) (c .before .before .before .before .before .before .first .ensures) (c .before .before .before .before .before .before .before .slice-fault2 .ensures) (c .before .before .before .before .before .before .before .before .slice-fault .ensures)
+    (omega (arith, length-numbers-of Size (a .sizes .now), same .sizes)) in
     let from-proportions =
-        outside-both (1 + 5 * n) (1 + 6 * n) (numbersOf Proportion (a .proportions .now)) _ (c .before .before .before .before .first2 .ensures) (c .before .before .before .before .before .slice-fault3 .ensures) from-sizes
-        (omega (arith, length-numbers-of Proportion (a .proportions .now), same .proportions)) in
+    outside-both (1 + 5 * n) (1 + 6 * n) (numbersOf Proportion (a .proportions .now)) _ (c .before .before .before .before .first2 .ensures) (c .before .before .before .before .before .slice-fault3 .ensures) from-sizes
+    (omega (arith, length-numbers-of Proportion (a .proportions .now), same .proportions)) in
     let from-tracks =
-        outside-both 1 (1 + 5 * n) (tracksNumbers (a .tracks .now)) _ (c .before .before .first3 .ensures) (c .before .before .before .tracks-fault .ensures) from-proportions
-        (omega (arith, length-tracks-numbers (a .tracks .now))) in
+    outside-both 1 (1 + 5 * n) (tracksNumbers (a .tracks .now)) _ (c .before .before .first3 .ensures) (c .before .before .before .tracks-fault .ensures) from-proportions
+    (omega (arith, length-tracks-numbers (a .tracks .now))) in
     outside-then 0 1 (given Size (a .space)) _ (c .first4 .ensures) (c .before .number-fault .ensures) from-tracks (omega arith) ∙ first-of-passed _ 12 0 _ fit
 
 pub distribution-fault-spec : {M : Type 1} → statement M

@@ -1,7 +1,7 @@
 -- `read` meets its promise: a refusal leaves the rows as they were, and else every row is read. Assumes nothing.
 use borrow.Author.Needs.{needs}
+use Rattle.records.specs.Answer.{faultOf}
 use Rattle.sheet.proofs.ReadCall.{read-refused, readable, read-done}
-use Rattle.sheet.specs.Answer.{faultOf}
 use mathlib.Core.Path.{sym, ap, _∙_}
 use Rattle.sheet.specs.Rule.{recordSize}
 use native.Mathlib.Omega.{arith}

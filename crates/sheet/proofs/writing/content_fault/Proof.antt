@@ -5,9 +5,9 @@ use Prim.Native.Nat.{_≤_}
 use native.Mathlib.Omega.{arith}
 use lib.ListN.{length}
 use Rattle.fill.specs.Rule.{mostTracks}
+use Rattle.records.proofs.Firsts.{le-of-count-fine}
 use Rattle.sheet.specs.Rule.{tracksAt, fine}
 use Rattle.sheet.specs.Content.{tracksFault, itemsFault, ItemsLooked}
-use Rattle.sheet.proofs.Firsts.{le-of-count-fine}
 use Rattle.sheet.proofs.Looks.{first-of-found, fine-of-passed, never-of-found, first-of-fine}
 use Rattle.sheet.proofs.writing.content_fault.Statement.{statement}
 use Rattle.sheet.proofs.writing.content_fault.Tie as tie

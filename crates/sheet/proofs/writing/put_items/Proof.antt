@@ -5,9 +5,9 @@ use Prim.Native.Nat.{_+_, _≤_}
 use native.Mathlib.Omega.{arith}
 use lib.ListN.{length}
 use Rattle.laws.specs.Put.{put-then}
+use Rattle.records.proofs.Firsts.{le-of-count-fine}
 use Rattle.sheet.specs.Rule.{mostItems, itemRecord, rowsBytes, twoBytes, fine}
 use Rattle.sheet.specs.Content.{rowsFault}
-use Rattle.sheet.proofs.Firsts.{le-of-count-fine}
 use Rattle.sheet.proofs.writing.put_items.Statement.{statement}
 use Rattle.sheet.proofs.writing.put_items.Tie as tie
 

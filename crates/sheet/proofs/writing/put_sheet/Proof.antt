@@ -5,10 +5,10 @@ use Prim.Native.Nat.{ℕ}
 use lib.ListN.{length}
 use Rattle.laws.specs.Put.{put}
 use Rattle.fill.specs.Rule.{mostTracks}
+use Rattle.records.proofs.Firsts.{fine-both, le-of-count-fine}
+use Rattle.rows.proofs.KindRows.{space-fine}
 use Rattle.sheet.specs.Rule.{Row, tracksAt, spaceRecord, itemRecord, rowFault, rowBytes, fine}
 use Rattle.sheet.specs.Content.{tracksFault, itemsFault, itemsAfter, sectionBytes}
-use Rattle.sheet.proofs.Firsts.{fine-both, le-of-count-fine}
-use Rattle.sheet.proofs.KindRows.{space-fine}
 use Rattle.sheet.proofs.SheetPut.{put-parts}
 use Rattle.sheet.proofs.writing.put_sheet.Statement.{statement}
 use Rattle.sheet.proofs.writing.put_sheet.Tie as tie

@@ -6,9 +6,9 @@ use native.Mathlib.Omega.{arith}
 use lib.ListN.{length}
 use Rattle.laws.specs.Put.{put-then}
 use Rattle.fill.specs.Rule.{mostTracks}
+use Rattle.records.proofs.Firsts.{le-of-count-fine}
 use Rattle.sheet.specs.Rule.{tracksAt, trackRecord, rowsBytes, twoBytes, fine}
 use Rattle.sheet.specs.Content.{rowsFault}
-use Rattle.sheet.proofs.Firsts.{le-of-count-fine}
 use Rattle.sheet.proofs.writing.put_tracks.Statement.{statement}
 use Rattle.sheet.proofs.writing.put_tracks.Tie as tie
 

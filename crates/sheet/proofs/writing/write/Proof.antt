@@ -1,7 +1,7 @@
 -- `write` is the call of the rule: a refusal that leaves the bytes, or the sheet's bytes at their front. Assumes nothing.
 use borrow.Author.Needs.{needs}
 use mathlib.Core.Path.{ap}
-use Rattle.sheet.specs.Answer.{faultOf}
+use Rattle.records.specs.Answer.{faultOf}
 use Rattle.sheet.specs.Content.{Writable}
 use Rattle.sheet.proofs.Content.{counts-of-fine}
 use Rattle.sheet.proofs.WriteCall.{write-refused, write-fits, write-written}

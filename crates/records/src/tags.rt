@@ -1,0 +1,107 @@
+// What each tag says of the number beside it.
+use crate::refusal::Fault;
+use crate::refusal::Refusal;
+use kinds::Amount;
+use kinds::Constraint;
+use kinds::Maximum;
+use kinds::Minimum;
+ghost use mathlib.Core.Path.{_≡_};
+ghost use Prim.Native.Nat.{_+_, _≤_};
+ghost use Rattle.records.specs.Rule.{constraintTags, givenTags, minimumTags, maximumTags, stretchBytes, isIn, unless, fault};
+ghost use Rattle.records.specs.Answer.{faultOf, lastPlace, useOf, useFault};
+
+pub enum Use {
+    Carries,
+    Bare,
+    Unlisted,
+}
+
+pub fn constraint(tag: u32) -> Use
+    ensures { λ r. ⌜ r ≡ useOf constraintTags tag ⌝ }
+{
+    if tag == Constraint::DEFINITE {
+        return Use::Carries;
+    }
+    if tag == Constraint::MIN_CONTENT {
+        return Use::Bare;
+    }
+    if tag == Constraint::MAX_CONTENT {
+        return Use::Bare;
+    }
+    Use::Unlisted
+}
+
+pub fn given(tag: u32) -> Use
+    ensures { λ r. ⌜ r ≡ useOf givenTags tag ⌝ }
+{
+    if tag == Amount::GIVEN {
+        return Use::Carries;
+    }
+    if tag == Amount::ABSENT {
+        return Use::Bare;
+    }
+    Use::Unlisted
+}
+
+pub fn minimum(tag: u32) -> Use
+    ensures { λ r. ⌜ r ≡ useOf minimumTags tag ⌝ }
+{
+    if tag == Minimum::FIXED {
+        return Use::Carries;
+    }
+    if tag == Minimum::AUTO {
+        return Use::Bare;
+    }
+    if tag == Minimum::MIN_CONTENT {
+        return Use::Bare;
+    }
+    if tag == Minimum::MAX_CONTENT {
+        return Use::Bare;
+    }
+    Use::Unlisted
+}
+
+pub fn maximum(tag: u32) -> Use
+    ensures { λ r. ⌜ r ≡ useOf maximumTags tag ⌝ }
+{
+    if tag == Maximum::FIXED {
+        return Use::Carries;
+    }
+    if tag == Maximum::FIT_CONTENT {
+        return Use::Carries;
+    }
+    if tag == Maximum::FR {
+        return Use::Carries;
+    }
+    if tag == Maximum::AUTO {
+        return Use::Bare;
+    }
+    if tag == Maximum::MIN_CONTENT {
+        return Use::Bare;
+    }
+    if tag == Maximum::MAX_CONTENT {
+        return Use::Bare;
+    }
+    Use::Unlisted
+}
+
+impl Use {
+    // What is wrong with a tag at a place and the number beside it.
+    pub fn fault(self, n: u32, at: usize) -> Fault
+        requires { ⌜ at + 1 ≤ lastPlace ⌝ }
+        ensures { λ r. ⌜ faultOf r ≡ useFault self n at ⌝ }
+    {
+        match self {
+            Use::Carries => Fault::Fine,
+            Use::Bare => Fault::unless(n == 0, Refusal::StrayNumber { at: at + 1 }),
+            Use::Unlisted => Fault::Found(Refusal::Tag { at }),
+        }
+    }
+}
+
+// What is wrong with a stretch byte.
+pub fn stretch_fault(byte: u32, at: usize) -> Fault
+    ensures { λ r. ⌜ faultOf r ≡ unless (isIn byte stretchBytes) (fault 4 at) ⌝ }
+{
+    Fault::unless(byte < 2, Refusal::Tag { at })
+}

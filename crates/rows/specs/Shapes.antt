@@ -1,0 +1,14 @@
+-- What is asked of bytes and of rows where they give each other back. Assumes nothing.
+use mathlib.Core.Path.{_≡_}
+use mathlib.Core.List.{List, []}
+use Prim.Native.Nat.{ℕ, _<_}
+use lib.ListN.{length, getD}
+use Rattle.records.specs.Rule.{Row}
+
+-- each number is a byte
+abbrev pub AreBytes : List ℕ → Type 0
+AreBytes bytes = (i : ℕ) → getD bytes i 0 < 256
+
+-- each row has so many numbers
+abbrev pub EachLong : ℕ → List Row → Type 0
+EachLong n rows = (i : ℕ) → i < length rows → length (getD rows i []) ≡ n

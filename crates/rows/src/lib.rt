@@ -1,0 +1,139 @@
+// A record as a row of numbers: read off the bytes, looked through for faults, and put back into bytes (the rule is that of
+// `records`). Its functions are for the sheet: each says what it asks.
+use records::Fault;
+use records::numbers::byte_at;
+use records::numbers::four_at;
+use records::numbers::put_byte;
+use records::numbers::put_four;
+use records::tags;
+ghost use mathlib.Core.Path.{_≡_};
+ghost use mathlib.Core.List.{_∷_};
+ghost use Prim.Native.Nat.{_+_, _≤_, _<_};
+ghost use lib.ListN.{length};
+ghost use Rattle.laws.specs.Put.{put};
+ghost use Rattle.records.specs.Rule.{spaceRecord, trackRecord, itemRecord, rowAt, rowBytes, rowFault, fine, fourBytes};
+ghost use Rattle.records.specs.Answer.{faultOf, lastPlace};
+
+// The bytes of each record.
+pub const SPACE_SIZE: usize = 11;
+
+pub const TRACK_SIZE: usize = 10;
+
+pub const ITEM_SIZE: usize = 19;
+
+pub fn space_at(bytes: &[u8], at: usize) -> [u32; 5]
+    requires { ⌜ at + 11 ≤ length (now bytes) ⌝ }
+    ensures { λ r. ⌜ r ≡ rowAt spaceRecord (now (bytes .entry)) at ⌝ }
+{
+    let inner = at + 5;
+    let stretch = inner + 5;
+    [
+        byte_at(bytes, at),
+        four_at(bytes, at + 1),
+        byte_at(bytes, inner),
+        four_at(bytes, inner + 1),
+        byte_at(bytes, stretch),
+    ]
+}
+
+pub fn track_at(bytes: &[u8], at: usize) -> [u32; 4]
+    requires { ⌜ at + 10 ≤ length (now bytes) ⌝ }
+    ensures { λ r. ⌜ r ≡ rowAt trackRecord (now (bytes .entry)) at ⌝ }
+{
+    let maximum = at + 5;
+    [
+        byte_at(bytes, at),
+        four_at(bytes, at + 1),
+        byte_at(bytes, maximum),
+        four_at(bytes, maximum + 1),
+    ]
+}
+
+pub fn item_at(bytes: &[u8], at: usize) -> [u32; 7]
+    requires { ⌜ at + 19 ≤ length (now bytes) ⌝ }
+    ensures { λ r. ⌜ r ≡ rowAt itemRecord (now (bytes .entry)) at ⌝ }
+{
+    let minimum = at + 4;
+    let min_content = minimum + 5;
+    let max_content = min_content + 5;
+    [
+        four_at(bytes, at),
+        byte_at(bytes, minimum),
+        four_at(bytes, minimum + 1),
+        byte_at(bytes, min_content),
+        four_at(bytes, min_content + 1),
+        byte_at(bytes, max_content),
+        four_at(bytes, max_content + 1),
+    ]
+}
+
+pub fn space_fault(row: [u32; 5], at: usize) -> Fault
+    requires { ⌜ at + 11 ≤ lastPlace ⌝ }
+    ensures { λ r. ⌜ faultOf r ≡ rowFault spaceRecord row at ⌝ }
+{
+    let inner_at = at + 5;
+    let constraint = tags::constraint(row[0]).fault(row[1], at);
+    let inner = tags::given(row[2]).fault(row[3], inner_at);
+    let stretch = tags::stretch_fault(row[4], inner_at + 5);
+    constraint.first(inner.first(stretch))
+}
+
+pub fn track_fault(row: [u32; 4], at: usize) -> Fault
+    requires { ⌜ at + 10 ≤ lastPlace ⌝ }
+    ensures { λ r. ⌜ (faultOf r ≡ rowFault trackRecord row at) × (length row ≡ 4) ⌝ }
+{
+    let minimum = tags::minimum(row[0]).fault(row[1], at);
+    let maximum = tags::maximum(row[2]).fault(row[3], at + 5);
+    minimum.first(maximum)
+}
+
+pub fn item_fault(row: [u32; 7], at: usize) -> Fault
+    requires { ⌜ at + 19 ≤ lastPlace ⌝ }
+    ensures { λ r. ⌜ (faultOf r ≡ rowFault itemRecord row at) × (length row ≡ 7) ⌝ }
+{
+    let minimum_at = at + 4;
+    let min_content_at = minimum_at + 5;
+    let minimum = tags::given(row[1]).fault(row[2], minimum_at);
+    let min_content = tags::given(row[3]).fault(row[4], min_content_at);
+    let max_content = tags::given(row[5]).fault(row[6], min_content_at + 5);
+    minimum.first(min_content.first(max_content))
+}
+
+// The rows that are put into bytes have no fault, so that each tag fits its byte.
+pub fn put_space(row: [u32; 5], bytes: &mut [u8], at: usize)
+    requires { ⌜ (at + 11 ≤ length (now bytes)) × (rowFault spaceRecord row at ≡ fine) ⌝ }
+    ensures { λ _. ⌜ now (bytes .exit) ≡ put at (rowBytes spaceRecord row) (now (bytes .entry)) ⌝ }
+{
+    let inner = at + 5;
+    put_tagged(row[0], row[1], bytes, at);
+    put_tagged(row[2], row[3], bytes, inner);
+    put_byte(row[4], bytes, inner + 5);
+}
+
+pub fn put_track(row: [u32; 4], bytes: &mut [u8], at: usize)
+    requires { ⌜ (at + 10 ≤ length (now bytes)) × (rowFault trackRecord row at ≡ fine) ⌝ }
+    ensures { λ _. ⌜ now (bytes .exit) ≡ put at (rowBytes trackRecord row) (now (bytes .entry)) ⌝ }
+{
+    put_tagged(row[0], row[1], bytes, at);
+    put_tagged(row[2], row[3], bytes, at + 5);
+}
+
+pub fn put_item(row: [u32; 7], bytes: &mut [u8], at: usize)
+    requires { ⌜ (at + 19 ≤ length (now bytes)) × (rowFault itemRecord row at ≡ fine) ⌝ }
+    ensures { λ _. ⌜ now (bytes .exit) ≡ put at (rowBytes itemRecord row) (now (bytes .entry)) ⌝ }
+{
+    let minimum = at + 4;
+    let min_content = minimum + 5;
+    put_four(row[0], bytes, at);
+    put_tagged(row[1], row[2], bytes, minimum);
+    put_tagged(row[3], row[4], bytes, min_content);
+    put_tagged(row[5], row[6], bytes, min_content + 5);
+}
+
+fn put_tagged(tag: u32, n: u32, bytes: &mut [u8], at: usize)
+    requires { ⌜ (at + 5 ≤ length (now bytes)) × (tag < 256) ⌝ }
+    ensures { λ _. ⌜ now (bytes .exit) ≡ put at (tag ∷ fourBytes n) (now (bytes .entry)) ⌝ }
+{
+    put_byte(tag, bytes, at);
+    put_four(n, bytes, at + 1);
+}

@@ -122,7 +122,7 @@ tracks-end rows i h = ap tracksNumbers (drop-of-length-le rows h)
 
 -- ---- 12: lengths that fit
 
-both-true : (a b : Bool) → (a && b) ≡ true → (a ≡ true) × (b ≡ true)
+pub both-true : (a b : Bool) → (a && b) ≡ true → (a ≡ true) × (b ≡ true)
 both-true true b e = (refl, e)
 both-true false b e = (e, cc)
 

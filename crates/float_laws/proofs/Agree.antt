@@ -115,7 +115,7 @@ max-allowed a b p q = record {
 
 -- ---- the larger of 0.0 and a value that may be negative
 
-zero-clear : IsClear zero32
+pub zero-clear : IsClear zero32
 unfolding ofBits
 zero-clear = (ofBits-fits binary32 0, refl)
 
@@ -192,7 +192,7 @@ min-with-infinity (inf true) p = absurd (false≢true (p .1))
 min-with-infinity (inf false) p = refl
 min-with-infinity (fin s m e) p = refl
 
-min-clear : (a b : Float) → IsClear a → IsClear b → IsClear (minOf a b)
+pub min-clear : (a b : Float) → IsClear a → IsClear b → IsClear (minOf a b)
 min-clear a b p q = go (lt a b)
   where
     go : (t : Bool) → IsClear (cond t a b)

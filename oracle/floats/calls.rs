@@ -103,17 +103,6 @@ impl Input {
     pub fn lends_rows(&self) -> bool {
         !matches!(self, Input::Gutter { .. } | Input::Fr { .. })
     }
-
-    pub fn has_result(&self) -> bool {
-        matches!(
-            self,
-            Input::Gutter { .. } | Input::Distribute { .. } | Input::Fr { .. }
-        )
-    }
-
-    pub fn has_mark(&self) -> bool {
-        matches!(self, Input::FlushLimit { .. })
-    }
 }
 
 /// All that is seen of a call afterwards.

@@ -1,17 +1,21 @@
-//! Cases as text, for a program that runs them again, and to show a difference. Every number is decimal, a float is its bit
-//! pattern, and a case is:
+//! Cases as text, for a program that runs them again (crates/float_vectors), and to show a difference. Every number is decimal, a
+//! float is its bit pattern, and a case is:
 //!
 //!     # NAME
-//!     the function's number, 0 to 6
-//!     a line for each argument in call order, without the lent result and the lent place
-//!     0 0 0 for an answer, 1 NUMBER PLACE for a refusal
-//!     the result float after the call, where the function has one
+//!     the function's number, 0 to 6; its choice; its space; its mark; its size
+//!     its tracks
+//!     its marks
+//!     its first list of floats
+//!     its second
+//!     its third
+//!     0 0 0 for an answer, 1 NUMBER PLACE for a refusal; the result float after the call; the mark after the call
 //!     the tracks after the call, where they are lent for writing
-//!     the mark after the call, for flush_planned_growth_limit_increases
 //!
-//! A bool is 0 or 1. A list is its length, then its entries; tracks are their count, then five numbers each. The one track of
-//! a flush is written so too, as 1 and its five numbers. A result float holds RESULT_BEFORE before the call.
-use crate::calls::{library, Input, Outcome, Row, NAMES, RESULT_BEFORE};
+//! What a function does not have is 0, and an empty list. The choice is the alignment, or the kind of the space less 1; the mark is
+//! whether a size is given, or the one that a limit gets; the size is the inner or the minimum one. A bool is 0 or 1. A list is its
+//! length, then its entries; tracks are their count, then five numbers each. A flush has one track, and one entry in its marks:
+//! whether the track is infinitely growable. A result float holds RESULT_BEFORE before the call.
+use crate::calls::{library, Input, Outcome, Row, DEFINITE, NAMES, RESULT_BEFORE};
 use crate::domain;
 use crate::inputs::{self, Lengths};
 use crate::random::Random;
@@ -46,154 +50,141 @@ fn tracks(rows: &[Row]) -> String {
     words(std::iter::once(rows.len() as u32).chain(rows.iter().flatten().map(|x| x.to_bits())))
 }
 
-fn float(x: f32) -> String {
-    x.to_bits().to_string()
+/// The arguments of any function: what it does not have is 0, or empty.
+#[derive(Default)]
+struct Arguments<'a> {
+    choice: u32,
+    space: f32,
+    mark: bool,
+    size: f32,
+    tracks: &'a [Row],
+    marks: &'a [bool],
+    floats: [&'a [f32]; 3],
 }
 
-fn mark(mark: bool) -> String {
-    (mark as u32).to_string()
-}
-
-/// The function's number and its arguments, a line each.
-pub fn arguments(input: &Input) -> Vec<String> {
-    let mut lines = vec![input.function().to_string()];
-    lines.extend(match input {
-        Input::FlushBase { .. } => vec![tracks(input.rows())],
-        Input::FlushLimit {
-            growable,
-            mark: is_set,
-            ..
-        } => vec![tracks(input.rows()), mark(*growable), mark(*is_set)],
+fn arguments_of(input: &Input) -> Arguments<'_> {
+    let given = Arguments {
+        tracks: input.rows(),
+        ..Arguments::default()
+    };
+    match input {
+        Input::FlushBase { .. } => Arguments {
+            marks: &[false],
+            ..given
+        },
+        Input::FlushLimit { growable, mark, .. } => Arguments {
+            mark: *mark,
+            marks: std::slice::from_ref(growable),
+            ..given
+        },
         Input::Gutter {
             alignment,
-            given,
+            given: is_given,
             inner,
             known,
             estimates,
-        } => {
-            vec![
-                alignment.to_string(),
-                mark(*given),
-                float(*inner),
-                marks(known),
-                floats(estimates),
-            ]
-        }
+        } => Arguments {
+            choice: *alignment,
+            mark: *is_given,
+            size: *inner,
+            marks: known,
+            floats: [estimates, &[], &[]],
+            ..given
+        },
         Input::Distribute {
             space,
-            tracks: rows,
             affected,
             proportions,
             sizes,
             limits,
-        } => {
-            vec![
-                float(*space),
-                tracks(rows),
-                marks(affected),
-                floats(proportions),
-                floats(sizes),
-                floats(limits),
-            ]
-        }
+            ..
+        } => Arguments {
+            space: *space,
+            marks: affected,
+            floats: [proportions, sizes, limits],
+            ..given
+        },
         Input::Fr {
-            tracks: rows,
             flexible,
             factors,
             space,
-        } => {
-            vec![
-                tracks(rows),
-                marks(flexible),
-                floats(factors),
-                float(*space),
-            ]
-        }
+            ..
+        } => Arguments {
+            space: *space,
+            marks: flexible,
+            floats: [factors, &[], &[]],
+            ..given
+        },
         Input::Maximise {
-            tracks: rows,
-            fits,
-            kind,
-            space,
-        } => {
-            vec![tracks(rows), floats(fits), kind.to_string(), float(*space)]
-        }
+            fits, kind, space, ..
+        } => Arguments {
+            choice: kind.wrapping_sub(DEFINITE),
+            space: *space,
+            floats: [fits, &[], &[]],
+            ..given
+        },
         Input::Stretch {
-            tracks: rows,
             autos,
-            given,
+            given: is_given,
             minimum,
             kind,
             space,
-        } => {
-            vec![
-                tracks(rows),
-                marks(autos),
-                mark(*given),
-                float(*minimum),
-                kind.to_string(),
-                float(*space),
-            ]
-        }
-    });
+            ..
+        } => Arguments {
+            choice: kind.wrapping_sub(DEFINITE),
+            space: *space,
+            mark: *is_given,
+            size: *minimum,
+            marks: autos,
+            ..given
+        },
+    }
+}
+
+/// The function's number and its arguments.
+pub fn arguments(input: &Input) -> Vec<String> {
+    let given = arguments_of(input);
+    let mut lines = vec![
+        words([
+            input.function() as u32,
+            given.choice,
+            given.space.to_bits(),
+            given.mark as u32,
+            given.size.to_bits(),
+        ]),
+        tracks(given.tracks),
+        marks(given.marks),
+    ];
+    lines.extend(given.floats.map(floats));
     lines
 }
 
-/// What is seen after the call, a line each.
-pub fn after(input: &Input, outcome: &Outcome) -> Vec<String> {
-    let mut lines = vec![match outcome.number {
+/// What is seen after the call.
+pub fn after(outcome: &Outcome) -> Vec<String> {
+    let told = match outcome.number {
         0 => "0 0 0".to_string(),
         number => format!("1 {number} {}", outcome.place),
-    }];
-    if input.has_result() {
-        lines.push(float(outcome.result));
-    }
-    if input.lends_rows() {
-        lines.push(tracks(&outcome.rows));
-    }
-    if input.has_mark() {
-        lines.push(mark(outcome.mark));
-    }
-    lines
+    };
+    let result = outcome.result.to_bits();
+    vec![
+        format!("{told} {result} {}", outcome.mark as u32),
+        tracks(&outcome.rows),
+    ]
 }
 
 fn longest(input: &Input) -> usize {
-    let lists = match input {
-        Input::FlushBase { .. } | Input::FlushLimit { .. } => vec![1],
-        Input::Gutter {
-            known, estimates, ..
-        } => vec![known.len(), estimates.len()],
-        Input::Distribute {
-            tracks,
-            affected,
-            proportions,
-            sizes,
-            limits,
-            ..
-        } => {
-            vec![
-                tracks.len(),
-                affected.len(),
-                proportions.len(),
-                sizes.len(),
-                limits.len(),
-            ]
-        }
-        Input::Fr {
-            tracks,
-            flexible,
-            factors,
-            ..
-        } => vec![tracks.len(), flexible.len(), factors.len()],
-        Input::Maximise { tracks, fits, .. } => vec![tracks.len(), fits.len()],
-        Input::Stretch { tracks, autos, .. } => vec![tracks.len(), autos.len()],
-    };
-    lists.into_iter().max().unwrap_or(0)
+    let given = arguments_of(input);
+    let longest_of_floats = given.floats.iter().map(|list| list.len()).max();
+    given
+        .tracks
+        .len()
+        .max(given.marks.len())
+        .max(longest_of_floats.unwrap_or(0))
 }
 
 /// Whether a function ever refuses by this number.
 fn can_refuse(function: usize, number: u32) -> bool {
     match number {
-        4 => matches!(function, 2 | 5 | 6),
         12 => function > 1,
         14 => function == 2,
         _ => true,
@@ -211,8 +202,9 @@ fn wanted(random: &mut Random, function: usize, number: u32, lengths: Lengths) -
     }
 }
 
-/// The inputs of a sample: of sixteen of one function, one for each refusal it has, four by 13, and the rest answered. The
-/// first sixteen end with a long answered one, and the second begin with lists that are too long.
+/// The inputs of a sample: of sixteen of one function, one for each refusal it has, four by 13, and the rest answered. None is
+/// refused by 4: a number that stands for no alignment or kind can be handed over through C alone. The first sixteen end with a
+/// long answered one, and the second begin with lists that are too long.
 fn sample_inputs(count: usize, seed: u64) -> Vec<Input> {
     let mut inputs = Vec::with_capacity(count);
     for function in 0..NAMES.len() {
@@ -221,8 +213,7 @@ fn sample_inputs(count: usize, seed: u64) -> Vec<Input> {
             let number = match i % 16 {
                 0 => 12,
                 1 => 14,
-                2 => 4,
-                3..=6 => 13,
+                2..=5 => 13,
                 _ => 0,
             };
             let number = if can_refuse(function, number) {
@@ -251,6 +242,7 @@ fn counts(inputs: &[Input]) -> String {
     };
     let refused: Vec<String> = REFUSALS
         .iter()
+        .filter(|number| of(**number) > 0)
         .map(|number| format!("{} by {number}", of(*number)))
         .collect();
     format!(
@@ -270,12 +262,14 @@ fn head(inputs: &[Input], count: usize, seed: u64) -> String {
         .collect();
     format!(
         "Written by `target/oracle-floats/compare sample {count} {seed}` (oracle/floats), what is answered by the Rust: {}. \
-         A case is a # line with its name; the function's number ({}); its arguments in call order, without the lent result \
-         and place; 0 0 0 for an answer, 1 NUMBER PLACE for a refusal; the result float after the call, where the function \
-         has one (before the call it is {RESULT_BEFORE}, and after a refusal); the tracks after the call, where they are \
-         lent for writing; the mark after the call, for function 1. A float is its bit pattern in decimal, a bool 0 or 1, a \
-         list its length and its entries, tracks their count and five numbers each (base size, growth limit, planned \
-         increase of the base, of the limit, incurred increase), a flush's track 1 and its five numbers. First case:",
+         A case is a # line with its name; the function's number ({}), its choice (the alignment, in the Rust's order from 0, or \
+         the space: 0 definite, 1 min-content, 2 max-content), its space, its mark (whether a size is given, or the one that a \
+         limit gets) and its size; its tracks; its marks (of a flush: whether the track is infinitely growable); three lists of \
+         floats in call order; 0 0 0 for an answer, 1 NUMBER PLACE for a refusal, the result float after the call (before it is \
+         {RESULT_BEFORE}) and the mark after it; the tracks after the call, where they are lent for writing. What a function does \
+         not have is 0, or empty. A float is its bit pattern in decimal, a bool 0 or 1, a list its length and its entries, tracks \
+         their count and five numbers each (base size, growth limit, planned increase of the base, of the limit, incurred \
+         increase). First case:",
         counts(inputs),
         names.join(", "),
     )
@@ -300,7 +294,7 @@ pub fn sample(count: usize, seed: u64) -> (String, usize) {
             format!("# {name}")
         });
         lines.extend(arguments(input));
-        lines.extend(after(input, &outcome));
+        lines.extend(after(&outcome));
     }
     lines.push(String::new());
     (lines.join("\n"), different)

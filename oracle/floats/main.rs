@@ -89,7 +89,7 @@ fn print_difference(input: &Input, wanted: &Outcome, seen: &Outcome) {
             "# {told}: returned {}, place {:#x}",
             outcome.number, outcome.place
         );
-        println!("{}", cases::after(input, outcome).join("\n"));
+        println!("{}", cases::after(outcome).join("\n"));
     }
     if !seen.beside_kept {
         println!("# something was written beside the lent tracks");

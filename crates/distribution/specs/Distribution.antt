@@ -10,7 +10,7 @@ use Rattle.laws.specs.Turns.{turns}
 use Rattle.float_laws.specs.Numbers.{zero32, minusZero, hundredth, infinity}
 use Rattle.float_laws.specs.Std.{minOf}
 use Rattle.float_track.specs.declared.track.Track.{Track}
-use Rattle.float_track.specs.Track.{trackOf, rowOf}
+use Rattle.float_track.specs.Track.{trackOf, rowOf, withSizes}
 use Rattle.distribution.specs.declared.part.Part.{Part}
 use Rattle.distribution.specs.declared.part.Grown.{Grown}
 
@@ -47,17 +47,7 @@ takes p t increase =
     && Ieee.le (Ieee.add binary32 (sizeNow p t) increase) (Ieee.add binary32 (p .limit) threshold))
 
 abbrev pub grownTo : Track → Float → Float → Grown
-grownTo t incurred space = record {
-  track = record {
-    «base_size» = t .«base_size»;
-    «growth_limit» = t .«growth_limit»;
-    «base_size_planned_increase» = t .«base_size_planned_increase»;
-    «growth_limit_planned_increase» = t .«growth_limit_planned_increase»;
-    «item_incurred_increase» = incurred;
-    «infinitely_growable» = t .«infinitely_growable»;
-  };
-  space = space;
-}
+grownTo t incurred space = record { track = withSizes t (t .«base_size») incurred; space = space }
 
 abbrev pub grownBy : Part → Track → Float → Float → Grown
 grownBy p t increase space =

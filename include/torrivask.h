@@ -1,8 +1,77 @@
-/* Torrivask's C face: the float routines. Link with libtorrivask.a (rt staticlib torrivask), x86-64.
+/* Torrivask's C face: the board, the fill, the sheet, and the float routines. Link with libtorrivask.a (rt staticlib torrivask), x86-64.
  *
  * Every function answers 0, or the number of a refusal. A refusal writes its place to *place and nothing else that was lent; an answer
- * of 0 leaves *place as it was. A list is a pointer and its length; a bool is 0 or 1. Nothing that is lent may overlap. Lists of one call are
- * of one length, 256 at most.
+ * of 0 leaves *place as it was. A list is a pointer and its length, in elements or rows; at length 0 nothing is read or written through the
+ * pointer, which may be NULL. No other pointer may be. A bool is 0 or 1. Nothing that is lent may overlap.
+ */
+#ifndef TORRIVASK_H
+#define TORRIVASK_H
+
+#include <stdbool.h>
+#include <stddef.h>
+#include <stdint.h>
+
+#ifdef __cplusplus
+extern "C" {
+#endif
+
+/* ---- The board, the fill, the sheet
+ *
+ * A sheet is bytes (docs/SHEET.md): a space, 256 tracks and 1,024 items at most, and so 22,033 bytes at most. As numbers it is rows, a tag
+ * and the number beside it for each of:
+ *    space, five numbers: constraint (1 definite; 2 min-content, 3 max-content), inner size (1 given; 0 absent); last stretch, 0 or 1
+ *    track, four: minimum (1 fixed; 2 auto, 3 min-content, 4 max-content), maximum (1 fixed, 5 fit-content, 6 fr in thousandths; 2 auto,
+ *       3 min-content, 4 max-content)
+ *    item, seven: first start + 65536 * span, both below 65536; then minimum, min-content and max-content contribution (each 1 given;
+ *       0 absent)
+ * The tags behind a semicolon carry no number, and the one beside them is 0. So no number ever says that something is absent.
+ *
+ * Refusals. 1 to 5 front to back: the first byte at fault decides, and the place is a byte of the sheet. Then 6 to 11 by number, each of 7
+ * to 11 at its lowest record: the space is 0, track t is 1 + t, item i is 1 + tracks + i.
+ *    1  a count or a record is not wholly there; the sheet's length
+ *    2  bytes follow the items; the first of them
+ *    3  the space's count is not 1, or more tracks or items than above; the count's first byte
+ *    4  a tag or a stretch that is not listed; its byte
+ *    5  a number beside a tag that carries none is not 0; its first byte
+ *    6  too few places, rows or bytes are lent; place 0
+ *    7  a number over its limit: 65,535 for fixed sizes, fit-content arguments and contributions, 100,000 for factors, 16,777,215 for
+ *       spaces
+ *    8  span 0, or start + span over the number of tracks
+ *    9  a contribution is absent, in an item that spans a track that is not fixed at both ends
+ *   10  a contribution is below an earlier one, in such an item
+ *   11  an item of span 2 or more crosses an fr track
+ *   12  the lists of a fill are of unequal length, or longer than 256; place 0
+ */
+
+/* Sizes a sheet, in dots. Base and growth limit of track t go to places[t]; places past the tracks keep what they hold. *tracks becomes the
+ * number of tracks, *rounds that of the passes in which the tracks are maximised. *definite becomes whether there is a free space: where
+ * there is, it goes to *free, negative for an overfull board; where there is none, *free keeps what it holds. Refuses by 1 to 11. */
+uint32_t torrivask_board(const uint8_t *sheet, size_t sheet_length, uint32_t (*places)[2], size_t place_count, uint32_t *tracks,
+                         bool *definite, int32_t *free, uint32_t *rounds, uint64_t *place);
+
+/* Hands dots out to the affected tracks, to each at most its room; a track that is not limited takes any amount, and its room is not read.
+ * Every gain is written, 0 where a track is not affected. *leftover becomes what no track took, *rounds the number of passes. The four
+ * lists, gains too, are of one length, 256 at most. Refuses by 12, then by 7: more than 16,777,215 dots at place 0, a limited track's
+ * room that is more at 1 + track. */
+uint32_t torrivask_fill(uint32_t dots, const bool *affected, size_t affected_count, const bool *limited, size_t limited_count,
+                        const uint32_t *rooms, size_t room_count, uint32_t *gains, size_t gain_count, uint32_t *leftover,
+                        uint32_t *rounds, uint64_t *place);
+
+/* Reads a sheet into rows. *columns becomes the number of tracks, *fares that of items; rows past them keep what they hold. Refuses by 1 to
+ * 5, then by 6 where either list has too few rows. */
+uint32_t torrivask_read_sheet(const uint8_t *sheet, size_t sheet_length, uint32_t space[5], uint32_t (*tracks)[4], size_t track_rows,
+                              uint32_t (*items)[7], size_t item_rows, uint32_t *columns, uint32_t *fares, uint64_t *place);
+
+/* Writes the sheet of these rows; its counts are the lengths of the lists. *length becomes the sheet's length; bytes past it keep what they
+ * hold. Refuses by 3 to 5 as the sheet's own bytes would show them, so the space comes before the tracks, then by 6. */
+uint32_t torrivask_write_sheet(const uint32_t space[5], const uint32_t (*tracks)[4], size_t track_count, const uint32_t (*items)[7],
+                               size_t item_count, uint8_t *bytes, size_t byte_count, uint64_t *length, uint64_t *place);
+
+/* *end becomes where the sheet at the front of these bytes ends, by its three counts; that may be behind the bytes that are there. Nothing
+ * but the counts is read. Refuses by 1 and 3. */
+uint32_t torrivask_sheet_end(const uint8_t *bytes, size_t byte_count, uint64_t *end, uint64_t *place);
+
+/* ---- The float routines. Lists of one call are of one length, 256 at most.
  *
  * A track is five floats: base size, growth limit, planned increase of the base size, planned increase of the growth limit, incurred
  * increase.
@@ -17,16 +86,6 @@
  *   13  a float outside its domain; its index: first the scalars in the order of the call, then the lists one after another, a
  *       track's five floats as above. A scalar that is not given keeps its index and is not looked at. Every float of a list is.
  */
-#ifndef TORRIVASK_H
-#define TORRIVASK_H
-
-#include <stdbool.h>
-#include <stddef.h>
-#include <stdint.h>
-
-#ifdef __cplusplus
-extern "C" {
-#endif
 
 /* kinds of space: the size beside the kind is read where it is definite */
 #define TORRIVASK_DEFINITE 1u

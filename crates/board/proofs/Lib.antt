@@ -2,7 +2,9 @@
 pub mod SizeSheet
 -- a sheet is never refused with 6
 pub mod SheetNumbers
--- what reading with room for any sheet leaves, and so the board
+-- what reading with rows for every record leaves, and so the board
 pub mod ReadBoard
 -- answers that tell the same are the same
 pub mod Unique
+-- no board tells more than 256 tracks
+pub mod Tracks

@@ -1,4 +1,4 @@
--- Reading with room for the records of any sheet: 6 is never met, and the first rows read are the sheet's. Assumes nothing.
+-- Reading with rows for every record: 6 is never met, and the first rows read are the sheet's. Assumes nothing.
 use mathlib.Core.Path.{_≡_, refl, sym, ap, _∙_}
 use mathlib.Core.List.{List, []}
 use Prim.Native.Nat.{ℕ, _+_, _≤_}
@@ -8,7 +8,7 @@ use lib.Seq.{take-at}
 use borrow.Author.Tests.{le-leb}
 use Rattle.kinds.specs.Kinds.{Row, spaceRow}
 use Rattle.kinds.specs.declared.space.Space.{Space}
-use Rattle.sheet.specs.Rule.{Fault, fine, fault, first, trackRecord, itemRecord, twoAt, tracksAt, itemsAt, Sheet, sheetAt, sheetFault, ReadTold, sheetRead, readRefused, ReadOutcome, onto, readFault, readAs, readCall}
+use Rattle.sheet.specs.Rule.{Fault, fine, fault, first, recordSize, trackRecord, itemRecord, twoAt, tracksAt, itemsAt, Sheet, sheetAt, sheetFault, ReadTold, sheetRead, readRefused, ReadOutcome, onto, readFault, readAs, readCall}
 use Rattle.records.specs.Answer.{refusalFault}
 use Rattle.sheet.specs.Answer.{readTold, readLeaves, sheetOf, enoughRows}
 use Rattle.records.specs.declared.refusal.Refusal.{Refusal}
@@ -66,70 +66,79 @@ take-onto new lent rows n en er =
     let whole : length rows ≡ length new + length (drop (length new) lent) = ap length er ∙ length-append new (drop (length new) lent) in
     (omega arith, rw (er, take-at new (drop (length new) lent) n (sym en)))
 
+-- ---- rows for every record
+
+module _ (bytes : List ℕ) (tracks items : List Row) where
+  -- where a sheet without fault has rows for its records, reading refuses what the sheet is refused for
+  read-fault : (sheetFault bytes ≡ fine → (twoAt bytes tracksAt ≤ length tracks) × (twoAt bytes (itemsAt bytes) ≤ length items))
+      → readFault bytes tracks items ≡ sheetFault bytes
+  read-fault rows = first-where (sheetFault bytes) enough-rows ∙ first-fine (sheetFault bytes)
+    where
+      enough-rows : sheetFault bytes ≡ fine → enoughRows bytes (length tracks) (length items) ≡ fine
+      enough-rows e = rw (le-leb (twoAt bytes tracksAt) (length tracks) (rows e .0), le-leb (twoAt bytes (itemsAt bytes)) (length items) (rows e .1))
+
+  -- no sheet announces more
+  pub large-rows : length tracks ≡ 256 → length items ≡ 1024 → readFault bytes tracks items ≡ sheetFault bytes
+  large-rows lt li = read-fault (λ e. let ok = accepted bytes e in (rw lt (ok .fewTracks), rw li (ok .fewItems)))
+
+  -- the records of a sheet, 10 and 19 bytes each, are wholly there
+  pub small-rows : length bytes ≤ 1232 → length tracks ≡ 128 → length items ≡ 64 → readFault bytes tracks items ≡ sheetFault bytes
+  unfolding recordSize
+  small-rows few lt li = read-fault (λ e. let ends = accepted bytes e .items .ends in (omega arith, omega arith))
+
 -- ---- the call
 
-module _ (bytes : List ℕ) (tracks items : List Row) (lt : length tracks ≡ 256) (li : length items ≡ 1024) where
-  -- a sheet without fault never announces more
-  enough-rows : sheetFault bytes ≡ fine → enoughRows bytes (length tracks) (length items) ≡ fine
-  enough-rows e =
-      let ok = accepted bytes e in
-      let few : twoAt bytes tracksAt ≤ length tracks = rw lt (ok .fewTracks) in
-      let fewItems : twoAt bytes (itemsAt bytes) ≤ length items = rw li (ok .fewItems) in
-      rw (le-leb (twoAt bytes tracksAt) (length tracks) few, le-leb (twoAt bytes (itemsAt bytes)) (length items) fewItems)
+-- rows are lent before, and `ts` and `is` stand there after
+module _ (bytes : List ℕ) (tracks items : List Row) (enough : readFault bytes tracks items ≡ sheetFault bytes) (ts is : List Row) where
+  fault-of-told : (a : ReadAnswer) → readLeaves a ts is ≡ readCall bytes tracks items → sheetFault bytes ≡ faultTold (readTold a)
+  unfolding readCall
+  fault-of-told a e = sym enough ∙ sym (fault-told (readFault bytes tracks items) (sheetAt bytes) tracks items) ∙ ap (λ (o : ReadOutcome). faultTold (o .told)) (sym e)
 
-  fault-of-read : readFault bytes tracks items ≡ sheetFault bytes
-  fault-of-read = first-where (sheetFault bytes) enough-rows ∙ first-fine (sheetFault bytes)
+  -- 1 to 5
+  pub sheet-refused : (a : ReadAnswer) (refusal : Refusal) (places : List Row) → a ≡ read.Refused refusal → readLeaves a ts is ≡ readCall bytes tracks items
+      → boardLeaves (answer.Refused (refusals.Sheet refusal)) places ≡ boardCall bytes places
+  unfolding readCall boardCall faultTold
+  sheet-refused a refusal places is-refused e =
+      let f : sheetFault bytes ≡ refusalFault refusal = fault-of-told a e ∙ ap (λ (x : ReadAnswer). faultTold (readTold x)) is-refused in
+      rw f
 
-  module _ (ts is : List Row) where
-    fault-of-told : (a : ReadAnswer) → readLeaves a ts is ≡ readCall bytes tracks items → sheetFault bytes ≡ faultTold (readTold a)
-    unfolding readCall
-    fault-of-told a e = sym fault-of-read ∙ sym (fault-told (readFault bytes tracks items) (sheetAt bytes) tracks items) ∙ ap (λ (o : ReadOutcome). faultTold (o .told)) (sym e)
+  -- never 6
+  pub sheet-refused-own : (a : ReadAnswer) (refusal : Refusal) → a ≡ read.Refused refusal → readLeaves a ts is ≡ readCall bytes tracks items
+      → ownAnswer (answer.Refused (refusals.Sheet refusal)) ≡ answer.Refused (refusals.Sheet refusal)
+  unfolding faultTold
+  sheet-refused-own a refusal is-refused e =
+      let f : sheetFault bytes ≡ refusalFault refusal = fault-of-told a e ∙ ap (λ (x : ReadAnswer). faultTold (readTold x)) is-refused in
+      ap answer.Refused (own-of-le refusal (rw f at (sheet-fault-le bytes)))
 
-    -- 1 to 5
-    pub sheet-refused : (a : ReadAnswer) (refusal : Refusal) (places : List Row) → a ≡ read.Refused refusal → readLeaves a ts is ≡ readCall bytes tracks items
-        → boardLeaves (answer.Refused (refusals.Sheet refusal)) places ≡ boardCall bytes places
-    unfolding readCall boardCall faultTold
-    sheet-refused a refusal places is-refused e =
-        let f : sheetFault bytes ≡ refusalFault refusal = fault-of-told a e ∙ ap (λ (x : ReadAnswer). faultTold (readTold x)) is-refused in
-        rw f
+  -- a sheet was read
+  pub record SheetRead (space : Space) (n m : ℕ) : Type 0 where
+    pub isFine : sheetFault bytes ≡ fine
+    pub trackRows : n ≤ length ts
+    pub itemRows : m ≤ length is
+    pub fewTracks : length (take n ts) ≤ 256
+    pub fewItems : length (take m is) ≤ 1024
+    pub isSheet : sheetOf space (take n ts) (take m is) ≡ sheetAt bytes
 
-    -- never 6
-    pub sheet-refused-own : (a : ReadAnswer) (refusal : Refusal) → a ≡ read.Refused refusal → readLeaves a ts is ≡ readCall bytes tracks items
-        → ownAnswer (answer.Refused (refusals.Sheet refusal)) ≡ answer.Refused (refusals.Sheet refusal)
-    unfolding faultTold
-    sheet-refused-own a refusal is-refused e =
-        let f : sheetFault bytes ≡ refusalFault refusal = fault-of-told a e ∙ ap (λ (x : ReadAnswer). faultTold (readTold x)) is-refused in
-        ap answer.Refused (own-of-le refusal (rw f at (sheet-fault-le bytes)))
+  module _ (a : ReadAnswer) (space : Space) (n m : ℕ) (is-sheet : a ≡ read.Sheet space n m) (e : readLeaves a ts is ≡ readCall bytes tracks items) where
+    pub sheet-read : SheetRead space n m
+    unfolding readCall sheetAt faultTold spaceTold tracksTold itemsTold
+    sheet-read =
+        let f : sheetFault bytes ≡ fine = fault-of-told a e ∙ ap (λ (x : ReadAnswer). faultTold (readTold x)) is-sheet in
+        let e′ : readLeaves (read.Sheet space n m) ts is ≡ readAs fine (sheetAt bytes) tracks items = sym (ap (λ (x : ReadAnswer). readLeaves x ts is) is-sheet) ∙ e ∙ ap (λ (x : Fault). readAs x (sheetAt bytes) tracks items) (enough ∙ f) in
+        let ok = accepted bytes f in
+        let t = take-onto (sheetAt bytes .tracks) tracks ts n (ap (λ (o : ReadOutcome). tracksTold (o .told)) e′) (ap (λ (o : ReadOutcome). o .tracks) e′) in
+        let i = take-onto (sheetAt bytes .items) items is m (ap (λ (o : ReadOutcome). itemsTold (o .told)) e′) (ap (λ (o : ReadOutcome). o .items) e′) in
+        let s : spaceRow space ≡ sheetAt bytes .space = ap (λ (o : ReadOutcome). spaceTold (o .told)) e′ in
+        record {
+          isFine = f;
+          trackRows = t .0;
+          itemRows = i .0;
+          fewTracks = rw (t .1, length-rowsAt trackRecord bytes (twoAt bytes tracksAt) (tracksAt + 2)) (ok .fewTracks);
+          fewItems = rw (i .1, length-rowsAt itemRecord bytes (twoAt bytes (itemsAt bytes)) (itemsAt bytes + 2)) (ok .fewItems);
+          isSheet = rw (s, t .1, i .1);
+        }
 
-    -- a sheet was read
-    pub record SheetRead (space : Space) (n m : ℕ) : Type 0 where
-      pub isFine : sheetFault bytes ≡ fine
-      pub trackRows : n ≤ length ts
-      pub itemRows : m ≤ length is
-      pub fewTracks : length (take n ts) ≤ 256
-      pub fewItems : length (take m is) ≤ 1024
-      pub isSheet : sheetOf space (take n ts) (take m is) ≡ sheetAt bytes
-
-    module _ (a : ReadAnswer) (space : Space) (n m : ℕ) (is-sheet : a ≡ read.Sheet space n m) (e : readLeaves a ts is ≡ readCall bytes tracks items) where
-      pub sheet-read : SheetRead space n m
-      unfolding readCall sheetAt faultTold spaceTold tracksTold itemsTold
-      sheet-read =
-          let f : sheetFault bytes ≡ fine = fault-of-told a e ∙ ap (λ (x : ReadAnswer). faultTold (readTold x)) is-sheet in
-          let e′ : readLeaves (read.Sheet space n m) ts is ≡ readAs fine (sheetAt bytes) tracks items = sym (ap (λ (x : ReadAnswer). readLeaves x ts is) is-sheet) ∙ e ∙ ap (λ (x : Fault). readAs x (sheetAt bytes) tracks items) (fault-of-read ∙ f) in
-          let ok = accepted bytes f in
-          let t = take-onto (sheetAt bytes .tracks) tracks ts n (ap (λ (o : ReadOutcome). tracksTold (o .told)) e′) (ap (λ (o : ReadOutcome). o .tracks) e′) in
-          let i = take-onto (sheetAt bytes .items) items is m (ap (λ (o : ReadOutcome). itemsTold (o .told)) e′) (ap (λ (o : ReadOutcome). o .items) e′) in
-          let s : spaceRow space ≡ sheetAt bytes .space = ap (λ (o : ReadOutcome). spaceTold (o .told)) e′ in
-          record {
-            isFine = f;
-            trackRows = t .0;
-            itemRows = i .0;
-            fewTracks = rw (t .1, length-rowsAt trackRecord bytes (twoAt bytes tracksAt) (tracksAt + 2)) (ok .fewTracks);
-            fewItems = rw (i .1, length-rowsAt itemRecord bytes (twoAt bytes (itemsAt bytes)) (itemsAt bytes + 2)) (ok .fewItems);
-            isSheet = rw (s, t .1, i .1);
-          }
-
-    -- and sized
-    pub board-of-sheet : (space : Space) (n m : ℕ) → SheetRead space n m → (places : List Row) (left : BoardOutcome) → left ≡ sheetBoard space (take n ts) (take m is) places → left ≡ boardCall bytes places
-    unfolding boardCall
-    board-of-sheet space n m ok places left b = rw (ok .isFine) (b ∙ ap (λ (sheet : Sheet). boardAs (sizeFault sheet places) sheet places) (ok .isSheet))
+  -- and sized
+  pub board-of-sheet : (space : Space) (n m : ℕ) → SheetRead space n m → (places : List Row) (left : BoardOutcome) → left ≡ sheetBoard space (take n ts) (take m is) places → left ≡ boardCall bytes places
+  unfolding boardCall
+  board-of-sheet space n m ok places left b = rw (ok .isFine) (b ∙ ap (λ (sheet : Sheet). boardAs (sizeFault sheet places) sheet places) (ok .isSheet))

@@ -14,6 +14,7 @@ use sizing::size;
 ghost use mathlib.Core.Path.{_≡_};
 ghost use Prim.Native.Nat.{_≤_};
 ghost use lib.ListN.{length};
+ghost use Rattle.sheet.specs.Rule.{sheetFault, readFault};
 ghost use Rattle.sheet.specs.Answer.{sheetOf};
 ghost use Rattle.board.specs.Rule.{sizeFault, boardAs, boardCall};
 ghost use Rattle.board.specs.Answer.{boardLeaves, ownAnswer};
@@ -27,9 +28,36 @@ pub enum BoardAnswer {
     Refused(Refusal),
 }
 
+// So few bytes have room for 121 tracks or 63 items at most: their records fit a small store, which is cleared sooner.
+const FEW_BYTES: usize = 1_232;
+
+const FEW_TRACKS: usize = 128;
+
+const FEW_ITEMS: usize = 64;
+
 // Sizes a sheet. Base and limit of track t stand in place t; places past the tracks, and all of them after a refusal, keep what
 // they hold.
 pub fn board(bytes: &[u8], places: &mut [[u32; 2]]) -> BoardAnswer
+    ensures { λ r. ⌜ (boardLeaves r (now (places .exit)) ≡ boardCall (now (bytes .entry)) (now (places .entry))) × (ownAnswer r ≡ r) ⌝ }
+{
+    if bytes.len() <= FEW_BYTES {
+        return board_small(bytes, places);
+    }
+    board_large(bytes, places)
+}
+
+// In a store for the records that few bytes say.
+fn board_small(bytes: &[u8], places: &mut [[u32; 2]]) -> BoardAnswer
+    requires { ⌜ length (now bytes) ≤ 1232 ⌝ }
+    ensures { λ r. ⌜ (boardLeaves r (now (places .exit)) ≡ boardCall (now (bytes .entry)) (now (places .entry))) × (ownAnswer r ≡ r) ⌝ }
+{
+    let mut tracks = [[0u32; 4]; FEW_TRACKS];
+    let mut items = [[0u32; 7]; FEW_ITEMS];
+    board_with(bytes, &mut tracks, &mut items, places)
+}
+
+// In a store for the records of any sheet.
+fn board_large(bytes: &[u8], places: &mut [[u32; 2]]) -> BoardAnswer
     ensures { λ r. ⌜ (boardLeaves r (now (places .exit)) ≡ boardCall (now (bytes .entry)) (now (places .entry))) × (ownAnswer r ≡ r) ⌝ }
 {
     let mut tracks = [[0u32; 4]; Track::MOST];
@@ -37,14 +65,14 @@ pub fn board(bytes: &[u8], places: &mut [[u32; 2]]) -> BoardAnswer
     board_with(bytes, &mut tracks, &mut items, places)
 }
 
-// With room for the records of any sheet.
+// With so many rows that reading never finds too few.
 fn board_with(
     bytes: &[u8],
     tracks: &mut [[u32; 4]],
     items: &mut [[u32; 7]],
     places: &mut [[u32; 2]],
 ) -> BoardAnswer
-    requires { ⌜ (length (now tracks) ≡ 256) × (length (now items) ≡ 1024) ⌝ }
+    requires { ⌜ readFault (now bytes) (now tracks) (now items) ≡ sheetFault (now bytes) ⌝ }
     ensures { λ r. ⌜ (boardLeaves r (now (places .exit)) ≡ boardCall (now (bytes .entry)) (now (places .entry))) × (ownAnswer r ≡ r) ⌝ }
 {
     let read = sheet::read(bytes, tracks, items);

@@ -1,8 +1,10 @@
 pub mod KindTests
 pub mod Grown
 pub mod Steps
+pub mod Tallies
 pub mod ShareSteps
 pub mod Shared
+pub mod Nothing
 pub mod ApplySteps
 pub mod Keeps
 pub mod Spanned

@@ -1,6 +1,6 @@
 -- A turn and the end of each loop of a share, said of lists. Assumes nothing.
 use mathlib.Core.Path.{_≡_, refl}
-use mathlib.Core.List.{List, [], _∷_, zipWith}
+use mathlib.Core.List.{List, [], _∷_, map, zipWith}
 use Prim.Native.Nat.{ℕ, zero, suc, _+_, _-_, _≤_, _<_}
 use native.Mathlib.Nat.{le-of-suc-le-suc, not-suc-le-zero}
 use lib.ListN.{length, getD, drop}
@@ -8,6 +8,8 @@ use Rattle.laws.specs.Walk.{next}
 use Rattle.fill.specs.Rule as fill
 use Rattle.fill.specs.Rests.{capOf, caps, lost}
 use Rattle.kinds.specs.Kinds.{Row}
+use Rattle.lines.specs.Rule.{firstTrack}
+use Rattle.lines.specs.Rule as rule
 use Rattle.lines.specs.Rows.{lineOf, linesOf}
 use Rattle.letters.specs.declared.share.Share.{Share}
 use Rattle.letters.specs.Shares.{shareTrack, shareTracks}
@@ -49,3 +51,33 @@ lost-at share dots (row ∷ rows) [] rests i h g r = absurd (not-suc-le-zero g)
 lost-at share dots (row ∷ rows) (x ∷ gains) [] i h g r = absurd (not-suc-le-zero r)
 lost-at share dots (row ∷ rows) (x ∷ gains) (y ∷ rests) zero h g r = refl
 lost-at share dots (row ∷ rows) (x ∷ gains) (y ∷ rests) (suc i) h g r = lost-at share dots rows gains rests i (le-of-suc-le-suc h) (le-of-suc-le-suc g) (le-of-suc-le-suc r)
+
+-- ---- the first share of a letter
+
+module _ (letter : rule.Letter) (dots : ℕ) (rows : List Row) where
+  -- the caps from the place i on
+  abbrev pub firstCapsFrom : ℕ → List ℕ
+  firstCapsFrom i = caps dots (map (firstTrack letter) (linesFrom rows i))
+
+  pub first-caps-step : (i v : ℕ) → i < length rows → v ≡ capOf dots (firstTrack letter (lineOf (getD rows i [])))
+      → firstCapsFrom i ≡ v ∷ firstCapsFrom (i + 1)
+  unfolding caps
+  first-caps-step i v h e = rw (lines-next rows i h, e) refl
+
+  pub first-caps-end : (i : ℕ) → length rows ≤ i → firstCapsFrom i ≡ []
+  unfolding caps
+  first-caps-end i h = rw (lines-end rows i h) refl
+
+module _ (rests : List ℕ) (i : ℕ) where
+  -- what the rests from the place i on lost of their caps
+  abbrev pub lostFrom : List ℕ → List ℕ
+  lostFrom cs = lost cs (drop i rests)
+
+  pub lost-nil : lostFrom [] ≡ []
+  unfolding lost
+  lost-nil = refl
+
+pub lost-step : (rests : List ℕ) (i x v : ℕ) (xs : List ℕ) → i < length rests → v ≡ x - getD rests i 0
+    → lostFrom rests i (x ∷ xs) ≡ v ∷ lostFrom rests (i + 1) xs
+unfolding lost
+lost-step rests i x v xs h e = rw (next rests i 0 h, e) refl

@@ -12,7 +12,7 @@ use Rattle.fill.specs.Rule.{mostDots, gainsOf, Fill, fill}
 use Rattle.fill.specs.Rule as fill
 use Rattle.fill.specs.Rests.{caps, lost, stateOf, fillRests}
 use Rattle.fill.proofs.Tied.{Fresh}
-use Rattle.fill.proofs.Fresh.{gain-add-left-le, length-gains, lost-is-gains, left-is-left, rounds-are-rounds}
+use Rattle.fill.proofs.Fresh.{gain-add-left-le, lost-is-gains, left-is-left, rounds-are-rounds}
 use Rattle.kinds.specs.Kinds.{Row}
 use Rattle.lines.specs.declared.line.Line.{Line}
 use Rattle.lines.specs.Rule.{firstTrack, moreGains, shares}
@@ -71,7 +71,7 @@ module _ (share : Share) (dots : ℕ) (ls : List Line) (gains rs xs : List ℕ) 
     rounds-are-rounds dots (shareTracks share ls gains) (share-fresh share ls gains) xs left rounds filled,
   )
 
--- ---- both shares of a letter
+-- ---- a share on top of no gains
 
 pub getD-zeros : (n i : ℕ) → _≡_ {A = ℕ} (getD (replicate n 0) i 0) 0
 getD-zeros zero i = refl
@@ -101,35 +101,38 @@ unfolding shareTracks zipWith
 tracks-of-zeros share [] = refl
 tracks-of-zeros share (l ∷ ls) = ap (shareTrack share l 0 ∷_) (tracks-of-zeros share ls)
 
--- the first share of a letter
+-- ---- both shares of a letter
+
+-- the first
 abbrev pub firstFill : rule.Letter → ℕ → List Line → Fill
 firstFill letter extra ls = fill extra (map (firstTrack letter) ls)
 
 pub first-fresh : (letter : rule.Letter) (ls : List Line) → Fresh (map (firstTrack letter) ls)
 first-fresh letter ls = image-all (λ (t : fill.Track). t .gain ≡ 0) (firstTrack letter) (λ l. refl) ls
 
-module _ (letter : Letter) (extra : ℕ) (ls : List Line) (zs : List ℕ) (cleared : zs ≡ replicate (length ls) 0) where
-  first-fill : fill extra (shareTracks (First letter) ls zs) ≡ firstFill (letterOf letter) extra ls
-  first-fill = ap (λ (ys : List ℕ). fill extra (shareTracks (First letter) ls ys)) cleared ∙ ap (fill extra) (tracks-of-zeros (First letter) ls)
+-- the caps cs are loaded into the rests rs as well, the rounds leave xs of these, and what they lost is gained
+pub first-shared : (letter : rule.Letter) (extra : ℕ) (ls : List Line) (cs rs xs gs : List ℕ) (left rounds : ℕ)
+    → cs ≡ caps extra (map (firstTrack letter) ls) → rs ≡ caps extra (map (firstTrack letter) ls)
+    → fillRests extra rs ≡ stateOf xs left rounds → gs ≡ lost cs xs
+    → (gs ≡ gainsOf (firstFill letter extra ls .tracks)) × (left ≡ firstFill letter extra ls .left)
+first-shared letter extra ls cs rs xs gs left rounds kept loaded ran taken =
+    let ts = map (firstTrack letter) ls in
+    let fresh = first-fresh letter ls in
+    let filled = ap (fillRests extra) (sym loaded) ∙ ran in (
+      taken ∙ ap (λ (ys : List ℕ). lost ys xs) kept ∙ lost-is-gains extra ts fresh xs left rounds filled,
+      left-is-left extra ts fresh xs left rounds filled,
+    )
 
-  module _ (gs : List ℕ) (left : ℕ) (shared : gs ≡ moreGains zs (fill extra (shareTracks (First letter) ls zs))) (rest : left ≡ fill extra (shareTracks (First letter) ls zs) .left) where
-    first-gains : gs ≡ gainsOf (firstFill (letterOf letter) extra ls .tracks)
-    first-gains =
-        shared
-        ∙ ap₂ moreGains cleared first-fill
-        ∙ zeros-more (length ls) _ (length-gains extra (map (firstTrack (letterOf letter)) ls) (first-fresh (letterOf letter) ls) ∙ length-map ls (firstTrack (letterOf letter)))
+module _ (letter : Letter) (extra : ℕ) (ls : List Line) (gs : List ℕ) (left : ℕ)
+    (first : (gs ≡ gainsOf (firstFill (letterOf letter) extra ls .tracks)) × (left ≡ firstFill (letterOf letter) extra ls .left)) where
+  -- a gain of the first share, and what is left of it, are no more than the dots
+  pub first-le : (i : ℕ) → getD gs i 0 + left ≤ extra
+  first-le i = rw (first .0, first .1) (gain-add-left-le extra (map (firstTrack (letterOf letter)) ls) (first-fresh (letterOf letter) ls) i)
 
-    first-left : left ≡ firstFill (letterOf letter) extra ls .left
-    first-left = rest ∙ ap (λ (f : Fill). f .left) first-fill
-
-    -- a gain of the first share, and what is left of it, are no more than the dots
-    pub first-le : (i : ℕ) → getD gs i 0 + left ≤ extra
-    first-le i = rw (first-gains, first-left) (gain-add-left-le extra (map (firstTrack (letterOf letter)) ls) (first-fresh (letterOf letter) ls) i)
-
-    pub both-shares : (narrow : Bool) (hs : List ℕ) → narrow ≡ some (isTaker (letterOf letter)) ls → hs ≡ moreGains gs (fill left (shareTracks (Rest letter narrow) ls gs))
-        → hs ≡ shares (letterOf letter) extra ls
-    unfolding shares shareTracks
-    both-shares narrow hs n e =
-        e
-        ∙ ap (λ (b : Bool). moreGains gs (fill left (shareTracks (Rest letter b) ls gs))) n
-        ∙ ap₂ (λ (ys : List ℕ) (d : ℕ). moreGains ys (fill d (shareTracks (Rest letter (some (isTaker (letterOf letter)) ls)) ls ys))) first-gains first-left
+  pub both-shares : (narrow : Bool) (hs : List ℕ) → narrow ≡ some (isTaker (letterOf letter)) ls → hs ≡ moreGains gs (fill left (shareTracks (Rest letter narrow) ls gs))
+      → hs ≡ shares (letterOf letter) extra ls
+  unfolding shares shareTracks
+  both-shares narrow hs n e =
+      e
+      ∙ ap (λ (b : Bool). moreGains gs (fill left (shareTracks (Rest letter b) ls gs))) n
+      ∙ ap₂ (λ (ys : List ℕ) (d : ℕ). moreGains ys (fill d (shareTracks (Rest letter (some (isTaker (letterOf letter)) ls)) ls ys))) (first .0) (first .1)

@@ -1,2 +1,3 @@
 pub mod Letters
 pub mod Shares
+pub mod Totals

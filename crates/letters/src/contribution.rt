@@ -114,12 +114,17 @@ pub fn beyond(dots: u32, total: u64) -> u32
     (all - total) as u32
 }
 
-// The dots that an item asks beyond the sizes of the lines that it spans.
-pub fn extra(letter: Letter, constraint: Constraint, item: Measured, lines: &[[u32; 8]]) -> u32
-    requires { ⌜ (length (now lines) ≤ mostTracks) × LinesFit (linesOf (now lines)) ⌝ }
+// The dots that an item asks beyond the sizes of the lines that it spans, which make `total`.
+pub fn extra(
+    letter: Letter,
+    constraint: Constraint,
+    item: Measured,
+    lines: &[[u32; 8]],
+    total: u64,
+) -> u32
+    requires { ⌜ (length (now lines) ≤ mostTracks) × LinesFit (linesOf (now lines)) × (total ≡ sum (map (letterOf letter .present) (linesOf (now lines)))) ⌝ }
     ensures { λ r. ⌜ r ≡ extraOf (letterOf letter) constraint item (linesOf (now (lines .entry))) ⌝ }
 {
     let asked = contribution(letter, constraint, item, lines);
-    let total = present_total(letter, lines);
     beyond(asked, total)
 }

@@ -1,10 +1,13 @@
 // The lettered steps of the longer spans on the lines that an item spans: extra dots shared out by the fill, increases planned
 // and applied (lines/specs/Rule.antt is the rule). Its functions are for the sizing: each says what it asks.
+mod affects;
 mod contribution;
 mod increase;
 mod letter;
 mod share;
+mod totals;
 
+pub use affects::affects_some;
 pub use contribution::beyond;
 pub use contribution::extra;
 pub use contribution::for_auto;
@@ -15,3 +18,4 @@ pub use letter::Letter;
 pub use share::Share;
 pub use share::share_extra;
 pub use share::share_out;
+pub use totals::tally;

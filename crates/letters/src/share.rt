@@ -9,13 +9,13 @@ use lines::Line;
 use lines::less;
 ghost use mathlib.Core.Path.{_≡_};
 ghost use mathlib.Core.Bool.{cond, not, _&&_, _||_};
-ghost use mathlib.Core.List.{[], _∷_, zipWith};
+ghost use mathlib.Core.List.{[], _∷_, map, zipWith};
 ghost use Prim.Native.Nat.{ℕ, _+_, _≤_};
-ghost use lib.ListN.{length, getD, replicate};
+ghost use lib.ListN.{length, getD};
 ghost use Rattle.laws.specs.Lists.{some};
-ghost use Rattle.fill.specs.Rule.{mostTracks, mostDots, fill};
+ghost use Rattle.fill.specs.Rule.{mostTracks, mostDots, gainsOf, fill};
 ghost use Rattle.fill.specs.Rests.{capIn, capOf, caps, lost};
-ghost use Rattle.lines.specs.Rule.{maxIn, moreGains, shares};
+ghost use Rattle.lines.specs.Rule.{maxIn, firstTrack, moreGains, shares};
 ghost use Rattle.lines.specs.Rows.{linesOf, roomOf};
 ghost use Rattle.letters.specs.Letters.{letterOf, most};
 ghost use Rattle.letters.specs.Shares.{shareTrack, shareTracks, isTaker};
@@ -127,14 +127,48 @@ pub fn share_out(
     done
 }
 
-fn clear(gains: &mut [u32])
-    ensures { λ _. ⌜ now (gains .exit) ≡ replicate (length (now (gains .entry))) 0 ⌝ }
+// The caps of a letter's first share: the rounds run on the rests, and the gains keep them.
+fn load_first(letter: Letter, dots: u32, lines: &[[u32; 8]], gains: &mut [u32], rests: &mut [u32])
+    requires { ⌜ (length (now gains) ≡ length (now lines)) × (length (now rests) ≡ length (now lines)) ⌝ }
+    ensures { λ _. ⌜ (now (gains .exit) ≡ caps dots (map (firstTrack (letterOf letter)) (linesOf (now (lines .entry))))) × (now (rests .exit) ≡ caps dots (map (firstTrack (letterOf letter)) (linesOf (now (lines .entry))))) ⌝ }
+{
+    let mut i = 0;
+    while i < lines.len() {
+        let cap = Share::First { letter }.cap(Line::of_row(lines[i]), 0, dots);
+        gains[i] = cap;
+        rests[i] = cap;
+        i += 1;
+    }
+}
+
+// Of each cap in the gains, what its rest lost.
+fn collect_first(rests: &[u32], gains: &mut [u32])
+    requires { ⌜ length (now rests) ≡ length (now gains) ⌝ }
+    ensures { λ _. ⌜ now (gains .exit) ≡ lost (now (gains .entry)) (now (rests .entry)) ⌝ }
 {
     let mut i = 0;
     while i < gains.len() {
-        gains[i] = 0;
+        gains[i] = less(gains[i], rests[i]);
         i += 1;
     }
+}
+
+// The first share of a letter: the gains hold each cap while the rounds run on the rests, and what was taken at the end. What
+// stood in them is not read. What is left comes back.
+fn share_first(
+    letter: Letter,
+    dots: u32,
+    lines: &[[u32; 8]],
+    gains: &mut [u32],
+    rests: &mut [u32],
+) -> u32
+    requires { ⌜ (length (now gains) ≡ length (now lines)) × (length (now rests) ≡ length (now lines)) × (length (now lines) ≤ mostTracks) ⌝ }
+    ensures { λ r. ⌜ (now (gains .exit) ≡ gainsOf (fill dots (map (firstTrack (letterOf letter)) (linesOf (now (lines .entry)))) .tracks)) × (r ≡ fill dots (map (firstTrack (letterOf letter)) (linesOf (now (lines .entry)))) .left) ⌝ }
+{
+    load_first(letter, dots, lines, gains, rests);
+    let done = run_rounds(dots, rests);
+    collect_first(rests, gains);
+    done.left
 }
 
 // Some affected track takes what remains.
@@ -152,7 +186,7 @@ fn some_taker(letter: Letter, lines: &[[u32; 8]]) -> bool
     false
 }
 
-// Both shares of a letter's extra dots.
+// Both shares of a letter's extra dots; the second only if dots remain.
 pub fn share_extra(
     letter: Letter,
     extra: u32,
@@ -163,14 +197,10 @@ pub fn share_extra(
     requires { ⌜ (length (now gains) ≡ length (now lines)) × (length (now rests) ≡ length (now lines)) × (length (now lines) ≤ mostTracks) × (extra ≤ mostDots) ⌝ }
     ensures { λ _. ⌜ now (gains .exit) ≡ shares (letterOf letter) extra (linesOf (now (lines .entry))) ⌝ }
 {
-    clear(gains);
-    let first = share_out(Share::First { letter }, extra, lines, gains, rests);
+    let left = share_first(letter, extra, lines, gains, rests);
+    if left == 0 {
+        return;
+    }
     let narrow = some_taker(letter, lines);
-    share_out(
-        Share::Rest { letter, narrow },
-        first.left,
-        lines,
-        gains,
-        rests,
-    );
+    share_out(Share::Rest { letter, narrow }, left, lines, gains, rests);
 }

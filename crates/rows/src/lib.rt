@@ -1,5 +1,5 @@
 // A record as a row of numbers: read off the bytes, looked through for faults, and put back into bytes (the rule is that of
-// `records`). Its functions are for the sheet: each says what it asks.
+// `records`). Its functions are for the sheet, `space_fault` also for the C face: each says what it asks.
 use records::Fault;
 use records::numbers::byte_at;
 use records::numbers::four_at;
@@ -69,7 +69,7 @@ pub fn item_at(bytes: &[u8], at: usize) -> [u32; 7]
 
 pub fn space_fault(row: [u32; 5], at: usize) -> Fault
     requires { ⌜ at + 11 ≤ lastPlace ⌝ }
-    ensures { λ r. ⌜ faultOf r ≡ rowFault spaceRecord row at ⌝ }
+    ensures { λ r. ⌜ (faultOf r ≡ rowFault spaceRecord row at) × (length row ≡ 5) ⌝ }
 {
     let inner_at = at + 5;
     let constraint = tags::constraint(row[0]).fault(row[1], at);

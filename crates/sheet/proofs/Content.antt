@@ -1,6 +1,6 @@
 -- The bytes of a sheet show the faults of its rows, and are as many as its counts say. Assumes nothing.
 use mathlib.Core.Path.{_≡_, refl, sym, ap, _∙_}
-use Prim.Native.Nat.{zero, suc, _+_, _*_, _≤_, zero-le}
+use Prim.Native.Nat.{ℕ, zero, suc, _+_, _*_, _≤_, zero-le}
 use native.Mathlib.Nat.{not-suc-le-zero, le-of-suc-le-suc}
 use native.Mathlib.Omega.{arith}
 use mathlib.Core.List.{List, [], _∷_, _++_, append-assoc, append-nil}
@@ -11,7 +11,7 @@ use Rattle.rows.specs.Shapes.{EachLong}
 use Rattle.records.proofs.Firsts.{first-fine, first-where, fine-both, le-of-count-fine}
 use Rattle.rows.proofs.Stands.{Stands, stands-front, stands-next, width}
 use Rattle.rows.proofs.KindRows.{space-fine}
-use Rattle.sheet.specs.Rule.{Row, recordSize, rowAt, rowsAt, rowFault, rowsBytes, spaceRecord, trackRecord, itemRecord, spaceSection, trackSection, itemSection, twoAt, tracksAt, itemsAt, sheetEnd, Sheet, sheetBytes, sheetAt, sheetFault, sectionFault, overFault, mostItems, Fault, first, fine}
+use Rattle.sheet.specs.Rule.{Row, recordSize, rowAt, rowsAt, rowFault, rowsBytes, spaceRecord, trackRecord, itemRecord, spaceSection, trackSection, itemSection, twoAt, tracksAt, itemsAt, sheetEnd, Sheet, sheetBytes, sheetAt, sheetFault, sectionFault, overFault, mostItems, Fault, first, fine, fault}
 use Rattle.sheet.specs.Answer.{sheetOf}
 use Rattle.sheet.specs.Content.{rowsFault, sectionBytes, tracksFault, itemsFault, itemsAfter, sheetSize, contentFault, Looked}
 use Rattle.sheet.specs.RoundTrip.{Shaped}
@@ -88,6 +88,15 @@ module _ (sheet : Sheet) (spaceLong : length (sheet .space) ≡ 5) where
 
   -- ---- the faults: the length of a row matters only where it is looked at
 
+  space-fault : sectionFault spaceSection (sheetBytes sheet) 0 ≡ rowFault spaceRecord (sheet .space) 2
+  unfolding rowsFault width
+  space-fault = section-fault spaceSection (sheet .space ∷ []) 0 space-stands (λ a. looked-of-long _ _ _ _ long-space) ∙ first-fine (rowFault spaceRecord (sheet .space) 2)
+
+  -- that of the space comes first, whatever the tracks and the items are
+  pub fault-of-space : (number place : ℕ) → rowFault spaceRecord (sheet .space) 2 ≡ fault number place → sheetFault (sheetBytes sheet) ≡ fault number place
+  unfolding sheetFault
+  fault-of-space number place e = rw (space-fault, e)
+
   module _ (looked : Looked (sheet .tracks) (sheet .items)) where
     looked-tracks-long : tracksFault (sheet .tracks) ≡ fine → EachLong 4 (sheet .tracks)
     looked-tracks-long e =
@@ -114,13 +123,9 @@ module _ (sheet : Sheet) (spaceLong : length (sheet .space) ≡ 5) where
 
     -- the space's fault, and then that of the tracks and the items
     looked-fault : sheetFault (sheetBytes sheet) ≡ first (rowFault spaceRecord (sheet .space) 2) (contentFault (sheet .tracks) (sheet .items))
-    unfolding sheetFault rowsFault width
+    unfolding sheetFault width
     looked-fault =
-        rw (
-          section-fault spaceSection (sheet .space ∷ []) 0 space-stands (λ a. looked-of-long _ _ _ _ long-space),
-          section-fault trackSection (sheet .tracks) tracksAt tracks-stand (λ a. looked .atTracks (leb-true _ _ a)),
-          first-fine,
-        )
+        rw (space-fault, section-fault trackSection (sheet .tracks) tracksAt tracks-stand (λ a. looked .atTracks (leb-true _ _ a)))
         (ap (first (rowFault spaceRecord (sheet .space) 2)) (first-where (tracksFault (sheet .tracks)) behind-tracks))
 
 -- ---- a sheet whose rows have the numbers that their records say

@@ -1,18 +1,20 @@
 -- The calls that read, case by case as the code goes. Assumes nothing.
-use mathlib.Core.Path.{_≡_, ap, _∙_}
+use mathlib.Core.Path.{_≡_, refl, sym, ap, subst, _∙_}
 use Prim.Native.Nat.{ℕ, _+_, _≤_}
 use mathlib.Core.List.{List}
 use lib.Dec.{leb}
 use lib.ListN.{length}
 use borrow.Author.Tests.{leb-true}
+use Rattle.fill.specs.Rule.{mostTracks}
 use Rattle.records.specs.Answer.{refusalFault}
 use Rattle.records.specs.declared.refusal.Refusal.{Refusal}
 use Rattle.records.proofs.Firsts.{fine-both, fine-test}
 use Rattle.rows.proofs.Stands.{length-rowsAt}
-use Rattle.sheet.specs.Rule.{Row, spaceRecord, trackRecord, itemRecord, rowAt, rowsAt, twoAt, Fault, fine, countFault, trackSection, itemSection, spaceSection, tracksAt, itemsAt, sheetEnd, Sheet, sheetAt, sheetFault, enough, onto, readFault, readAs, readCall, countsFault, endCall}
+use Rattle.sheet.specs.Rule.{Row, spaceRecord, trackRecord, itemRecord, rowAt, rowsAt, twoAt, Fault, fine, fault, mostItems, countFault, trackSection, itemSection, spaceSection, tracksAt, itemsAt, sheetEnd, Sheet, sheetAt, sheetFault, enough, onto, ReadTold, sheetRead, readRefused, ReadOutcome, readFault, readAs, readCall, countsFault, endCall}
 use Rattle.kinds.specs.Kinds.{spaceRow, spaceOf}
-use Rattle.sheet.specs.Answer.{readLeaves, endTold}
+use Rattle.sheet.specs.Answer.{readTold, readLeaves, endTold}
 use Rattle.kinds.specs.declared.space.Space.{Space}
+use Rattle.sheet.specs.declared.reading.ReadAnswer.{ReadAnswer}
 use Rattle.sheet.specs.declared.reading.ReadAnswer.the-variants as answer
 use Rattle.sheet.specs.declared.EndAnswer.the-variants as end
 use Rattle.sheet.proofs.Accepted.{Accepted, accepted, count-fine, space-row-of-accepted}
@@ -51,6 +53,28 @@ module _ (bytes : List ℕ) (tracks items : List Row) where
         let row : spaceRow space ≡ rowAt spaceRecord bytes 2 = ap spaceRow es ∙ space-row-of-accepted bytes (readable .isFine) in
         let em′ : m ≡ twoAt bytes (itemsAt bytes) = em ∙ ap (twoAt bytes) ep in
         rw (e, row, et, ei, em′, ep, en, length-rowsAt trackRecord bytes (twoAt bytes tracksAt) (tracksAt + 2), length-rowsAt itemRecord bytes (twoAt bytes (itemsAt bytes)) (itemsAt bytes + 2))
+
+-- ---- the counts that are told are allowed
+
+abbrev pub CountsFew : ReadTold → Type 0
+CountsFew (sheetRead space tracks items) = (tracks ≤ mostTracks) × (items ≤ mostItems)
+CountsFew (readRefused number place) = Unit {0}
+
+module _ (bytes : List ℕ) (tracks items : List Row) where
+  told-few : (f : Fault) → readFault bytes tracks items ≡ f → CountsFew (readAs f (sheetAt bytes) tracks items .told)
+  unfolding sheetAt
+  told-few fine e =
+      let sheet = readable bytes tracks items e .sheet in
+      (rw (length-rowsAt trackRecord bytes (twoAt bytes tracksAt) (tracksAt + 2)) (sheet .fewTracks), rw (length-rowsAt itemRecord bytes (twoAt bytes (itemsAt bytes)) (itemsAt bytes + 2)) (sheet .fewItems))
+  told-few (fault number place) e = tt
+
+  call-few : CountsFew (readCall bytes tracks items .told)
+  unfolding readCall
+  call-few = told-few (readFault bytes tracks items) refl
+
+  pub counts-few : (a : ReadAnswer) (ts is : List Row) (space : Space) (n m : ℕ) → readLeaves a ts is ≡ readCall bytes tracks items → a ≡ answer.Sheet space n m
+      → (n ≤ mostTracks) × (m ≤ mostItems)
+  counts-few a ts is space n m e told = subst CountsFew (sym (ap (λ (o : ReadOutcome). o .told) e) ∙ ap readTold told) call-few
 
 -- ---- the end
 

@@ -11,3 +11,5 @@ pub mod FreeFits
 pub mod Contents
 pub mod Finished
 pub mod Sized
+-- as many places as tracks
+pub mod Counted

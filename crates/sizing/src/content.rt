@@ -1,7 +1,9 @@
 // Steps 1 to 4: the sizes that content asks.
+use crate::FEW;
 use chains::LAST;
 use chains::gather;
 use kinds::Constraint;
+use letters::tally;
 use lines::Pass;
 use lines::pass_over;
 use lines::start;
@@ -10,7 +12,7 @@ use spans::longer;
 use spans::singles;
 ghost use mathlib.Core.Path.{_≡_};
 ghost use mathlib.Core.List.{map};
-ghost use Prim.Native.Nat.{ℕ, _-_, _≤_, _<_};
+ghost use Prim.Native.Nat.{ℕ, _+_, _-_, _≤_, _<_};
 ghost use lib.ListN.{length, getD, replicate};
 ghost use Rattle.laws.specs.Lists.{All, keep, inTurn, upFrom};
 ghost use Rattle.fill.specs.Rule.{mostTracks};
@@ -21,7 +23,13 @@ ghost use Rattle.lines.specs.Rows.{linesOf};
 ghost use Rattle.lines.specs.Fits.{LinesFit};
 ghost use Rattle.lines.specs.Chains.{chained, ChainFits, Whole};
 ghost use Rattle.chains.specs.Batches.{Gathered};
-ghost use Rattle.spans.specs.Work.{Working};
+ghost use Rattle.letters.specs.Totals.{tallied};
+ghost use Rattle.spans.specs.Work.{Working, Calm};
+
+// A total before each line and one behind the last.
+const FEW_TOTALS: usize = 65;
+
+const TOTALS: usize = 257;
 
 // Steps 1 and 2, and the chains of the batches.
 fn prepare(
@@ -40,7 +48,7 @@ fn prepare(
     singles(constraint, heads[1], nexts, items, lines);
 }
 
-// Steps 3 and 4.
+// Steps 3 and 4, with running totals beside the lines.
 fn spread(
     constraint: Constraint,
     heads: &[usize],
@@ -51,9 +59,104 @@ fn spread(
     gains: &mut [u32],
     rests: &mut [u32],
 )
-    requires { ⌜ Working (now lines) (now increases) (now gains) (now rests) × (length (now heads) ≡ 258) × ((k : ℕ) → 0 < k → k < 258 → ChainFits (length (now lines)) (now items) (now nexts) (getD (now heads) k 0) × Whole (now items) (now nexts) (getD (now heads) k 0)) ⌝ }
+    requires { ⌜ Working (now lines) (now increases) (now gains) (now rests) (tallied (linesOf (now lines))) × (length (now heads) ≡ 258) × ((k : ℕ) → 0 < k → k < 258 → ChainFits (length (now lines)) (now items) (now nexts) (getD (now heads) k 0) × Whole (now items) (now nexts) (getD (now heads) k 0)) × Calm (linesOf (now lines)) ⌝ }
     ensures { λ _. ⌜ (linesOf (now (lines .exit)) ≡ missing (batched constraint (chained (now (items .entry)) (now (nexts .entry)) (getD (now (heads .entry)) 257 0)) (inTurn (λ (k : ℕ). batched constraint (chained (now (items .entry)) (now (nexts .entry)) (getD (now (heads .entry)) k 0))) (upFrom 2 (length (now (lines .entry)) - 1)) (linesOf (now (lines .entry)))))) × LinesFit (linesOf (now (lines .exit))) × (now (increases .exit) ≡ replicate (length (now (lines .entry))) 0) ⌝ }
 {
+    if lines.len() <= FEW {
+        return spread_small(
+            constraint,
+            heads,
+            nexts,
+            items,
+            lines,
+            increases,
+            gains,
+            rests,
+        );
+    }
+    spread_large(
+        constraint,
+        heads,
+        nexts,
+        items,
+        lines,
+        increases,
+        gains,
+        rests,
+    );
+}
+
+fn spread_small(
+    constraint: Constraint,
+    heads: &[usize],
+    nexts: &[usize],
+    items: &[[u32; 7]],
+    lines: &mut [[u32; 8]],
+    increases: &mut [u32],
+    gains: &mut [u32],
+    rests: &mut [u32],
+)
+    requires { ⌜ Working (now lines) (now increases) (now gains) (now rests) (tallied (linesOf (now lines))) × (length (now heads) ≡ 258) × ((k : ℕ) → 0 < k → k < 258 → ChainFits (length (now lines)) (now items) (now nexts) (getD (now heads) k 0) × Whole (now items) (now nexts) (getD (now heads) k 0)) × Calm (linesOf (now lines)) × (length (now lines) ≤ 64) ⌝ }
+    ensures { λ _. ⌜ (linesOf (now (lines .exit)) ≡ missing (batched constraint (chained (now (items .entry)) (now (nexts .entry)) (getD (now (heads .entry)) 257 0)) (inTurn (λ (k : ℕ). batched constraint (chained (now (items .entry)) (now (nexts .entry)) (getD (now (heads .entry)) k 0))) (upFrom 2 (length (now (lines .entry)) - 1)) (linesOf (now (lines .entry)))))) × LinesFit (linesOf (now (lines .exit))) × (now (increases .exit) ≡ replicate (length (now (lines .entry))) 0) ⌝ }
+{
+    let mut sums = [[0u64; 2]; FEW_TOTALS];
+    let n = lines.len() + 1;
+    spread_with(
+        constraint,
+        heads,
+        nexts,
+        items,
+        lines,
+        increases,
+        gains,
+        rests,
+        &mut sums[..n],
+    );
+}
+
+fn spread_large(
+    constraint: Constraint,
+    heads: &[usize],
+    nexts: &[usize],
+    items: &[[u32; 7]],
+    lines: &mut [[u32; 8]],
+    increases: &mut [u32],
+    gains: &mut [u32],
+    rests: &mut [u32],
+)
+    requires { ⌜ Working (now lines) (now increases) (now gains) (now rests) (tallied (linesOf (now lines))) × (length (now heads) ≡ 258) × ((k : ℕ) → 0 < k → k < 258 → ChainFits (length (now lines)) (now items) (now nexts) (getD (now heads) k 0) × Whole (now items) (now nexts) (getD (now heads) k 0)) × Calm (linesOf (now lines)) ⌝ }
+    ensures { λ _. ⌜ (linesOf (now (lines .exit)) ≡ missing (batched constraint (chained (now (items .entry)) (now (nexts .entry)) (getD (now (heads .entry)) 257 0)) (inTurn (λ (k : ℕ). batched constraint (chained (now (items .entry)) (now (nexts .entry)) (getD (now (heads .entry)) k 0))) (upFrom 2 (length (now (lines .entry)) - 1)) (linesOf (now (lines .entry)))))) × LinesFit (linesOf (now (lines .exit))) × (now (increases .exit) ≡ replicate (length (now (lines .entry))) 0) ⌝ }
+{
+    let mut sums = [[0u64; 2]; TOTALS];
+    let n = lines.len() + 1;
+    spread_with(
+        constraint,
+        heads,
+        nexts,
+        items,
+        lines,
+        increases,
+        gains,
+        rests,
+        &mut sums[..n],
+    );
+}
+
+fn spread_with(
+    constraint: Constraint,
+    heads: &[usize],
+    nexts: &[usize],
+    items: &[[u32; 7]],
+    lines: &mut [[u32; 8]],
+    increases: &mut [u32],
+    gains: &mut [u32],
+    rests: &mut [u32],
+    sums: &mut [[u64; 2]],
+)
+    requires { ⌜ Working (now lines) (now increases) (now gains) (now rests) (tallied (linesOf (now lines))) × (length (now heads) ≡ 258) × ((k : ℕ) → 0 < k → k < 258 → ChainFits (length (now lines)) (now items) (now nexts) (getD (now heads) k 0) × Whole (now items) (now nexts) (getD (now heads) k 0)) × Calm (linesOf (now lines)) × (length (now sums) ≡ length (now lines) + 1) ⌝ }
+    ensures { λ _. ⌜ (linesOf (now (lines .exit)) ≡ missing (batched constraint (chained (now (items .entry)) (now (nexts .entry)) (getD (now (heads .entry)) 257 0)) (inTurn (λ (k : ℕ). batched constraint (chained (now (items .entry)) (now (nexts .entry)) (getD (now (heads .entry)) k 0))) (upFrom 2 (length (now (lines .entry)) - 1)) (linesOf (now (lines .entry)))))) × LinesFit (linesOf (now (lines .exit))) × (now (increases .exit) ≡ replicate (length (now (lines .entry))) 0) ⌝ }
+{
+    tally(lines, sums);
     longer(
         constraint,
         heads,
@@ -63,6 +166,7 @@ fn spread(
         increases,
         gains,
         rests,
+        sums,
     );
     batched(
         constraint,
@@ -73,6 +177,7 @@ fn spread(
         increases,
         gains,
         rests,
+        sums,
     );
     pass_over(Pass::Missing, lines);
 }

@@ -24,9 +24,62 @@ pub struct Sizes {
     pub rounds: u32,
 }
 
+// So many tracks and items at most work in a small store, which is cleared sooner.
+pub(crate) const FEW: usize = 64;
+
 // Base and limit of each track go to its place.
 pub fn size(space: Space, tracks: &[[u32; 4]], items: &[[u32; 7]], places: &mut [[u32; 2]]) -> Sizes
     requires { ⌜ Sizable space (now tracks) (now items) × (length (now items) ≤ 1024) × (length (now places) ≡ length (now tracks)) ⌝ }
+    ensures { λ r. ⌜ boardOf r (now (places .exit)) ≡ sizeRows space (now (tracks .entry)) (now (items .entry)) ⌝ }
+{
+    if tracks.len() <= FEW && items.len() <= FEW {
+        return size_small(space, tracks, items, places);
+    }
+    size_large(space, tracks, items, places)
+}
+
+// In a store for few tracks and items.
+fn size_small(
+    space: Space,
+    tracks: &[[u32; 4]],
+    items: &[[u32; 7]],
+    places: &mut [[u32; 2]],
+) -> Sizes
+    requires { ⌜ Sizable space (now tracks) (now items) × (length (now tracks) ≤ 64) × (length (now items) ≤ 64) × (length (now places) ≡ length (now tracks)) ⌝ }
+    ensures { λ r. ⌜ boardOf r (now (places .exit)) ≡ sizeRows space (now (tracks .entry)) (now (items .entry)) ⌝ }
+{
+    let mut heads = [0usize; BATCHES];
+    let mut nexts = [0usize; FEW];
+    let mut lines = [[0u32; 8]; FEW];
+    let mut increases = [0u32; FEW];
+    let mut gains = [0u32; FEW];
+    let mut rests = [0u32; FEW];
+    let mut held = [false; FEW];
+    let n = tracks.len();
+    let m = items.len();
+    size_with(
+        space,
+        tracks,
+        items,
+        &mut heads,
+        &mut nexts[..m],
+        &mut lines[..n],
+        &mut increases[..n],
+        &mut gains[..n],
+        &mut rests[..n],
+        &mut held[..n],
+        places,
+    )
+}
+
+// In a store for the tracks and items of any board.
+fn size_large(
+    space: Space,
+    tracks: &[[u32; 4]],
+    items: &[[u32; 7]],
+    places: &mut [[u32; 2]],
+) -> Sizes
+    requires { ⌜ Sizable space (now tracks) (now items) × (length (now tracks) ≤ 256) × (length (now items) ≤ 1024) × (length (now places) ≡ length (now tracks)) ⌝ }
     ensures { λ r. ⌜ boardOf r (now (places .exit)) ≡ sizeRows space (now (tracks .entry)) (now (items .entry)) ⌝ }
 {
     let mut heads = [0usize; BATCHES];

@@ -7,3 +7,5 @@ pub mod OneTrack
 -- step 3: one item, one letter, one batch
 pub mod Planned
 pub mod Raised
+-- lines between letters and batches
+pub mod Calm

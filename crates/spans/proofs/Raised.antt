@@ -16,11 +16,13 @@ use Rattle.lines.specs.Rows.{lineOf, linesOf}
 use Rattle.lines.specs.Fits.{LinesFit, MeasuredFit}
 use Rattle.letters.specs.declared.letter.Letter.{Letter}
 use Rattle.letters.specs.Letters.{letterOf, most}
+use Rattle.letters.specs.Totals.{tallied}
 use Rattle.letters.proofs.Keeps.{length-increases, increases-fit-rows, raise-fits}
 use Rattle.letters.proofs.Shared.{zeros-as, zeros-of-lines}
 use native.Mathlib.Omega.{arith}
 use Rattle.lines.specs.Chains.{ChainFits}
-use Rattle.spans.specs.Work.{Working, letterAt, hasPlace, letterStep, letterSteps}
+use Rattle.spans.specs.Work.{Working, Calm, letterAt, hasPlace, letterStep, letterSteps}
+use Rattle.spans.proofs.Calm.{calm-stays}
 
 module _ (letter : Letter) (c : Constraint) (batch : List Measured) (rows : List Row) (start planned : List ℕ)
     (none : start ≡ replicate (length rows) 0) (told : planned ≡ inTurn (increasedBy (letterOf letter) c (linesOf rows)) batch start) where
@@ -44,6 +46,13 @@ module _ (letter : Letter) (c : Constraint) (batch : List Measured) (rows : List
     raised-is ls e =
         let r : ls ≡ raise c batch (letterOf letter) (linesOf rows) = e ∙ ap (zipWith (letterOf letter .grown) (linesOf rows)) planned-is in
         (r, subst LinesFit (sym r) (raise-fits letter c n batch (linesOf rows) fits items))
+
+  -- where nothing was planned, calm lines stay as they are
+  pub not-raised : planned ≡ start → Calm (linesOf rows) → linesOf rows ≡ raise c batch (letterOf letter) (linesOf rows)
+  unfolding raise
+  not-raised same calm =
+      sym (calm-stays letter (linesOf rows) calm)
+      ∙ ap (zipWith (letterOf letter .grown) (linesOf rows)) (sym (zeros-of-lines rows (length rows) start none refl) ∙ sym same ∙ planned-is)
 
 -- ---- the letters by number
 
@@ -83,10 +92,10 @@ batch-of-none c batch ls e = rw e refl
 
 -- ---- the working store between letters
 
-pub working-after : {lines lines′ : List Row} {increases increases′ gains gains′ rests rests′ : List ℕ} → Working lines increases gains rests
+pub working-after : {lines lines′ sums sums′ : List Row} {increases increases′ gains gains′ rests rests′ : List ℕ} → Working lines increases gains rests sums
     → length lines′ ≡ length lines → length gains′ ≡ length gains → length rests′ ≡ length rests → LinesFit (linesOf lines′) → increases′ ≡ replicate (length lines) 0
-    → Working lines′ increases′ gains′ rests′
-working-after {lines} {lines′} w l g r f z =
+    → sums′ ≡ tallied (linesOf lines′) → Working lines′ increases′ gains′ rests′ sums′
+working-after {lines} {lines′} w l g r f z t =
     let few = w .few in
     record {
       few = omega arith;
@@ -94,6 +103,7 @@ working-after {lines} {lines′} w l g r f z =
       none = zeros-as {m = length lines} {n = length lines′} z (sym l);
       gains-long = g ∙ w .gains-long ∙ sym l;
       rests-long = r ∙ w .rests-long ∙ sym l;
+      totals = t;
     }
 
 pub chain-fits-as : {m n : ℕ} (items : List Row) (nexts : List ℕ) (first : ℕ) → m ≡ n → ChainFits n items nexts first → ChainFits m items nexts first

@@ -9,6 +9,9 @@ use Rattle.fill.specs.Rule.{mostTracks}
 use Rattle.kinds.specs.Kinds.{Row}
 use Rattle.kinds.specs.declared.space.Constraint.{Constraint}
 use Rattle.kinds.specs.declared.space.Constraint.the-variants.{Definite, MinContent, MaxContent}
+use Rattle.laws.specs.Lists.{All}
+use Rattle.lines.specs.declared.limit.Limit.{Limit}
+use Rattle.lines.specs.declared.limit.Limit.the-variants.{None, UpTo}
 use Rattle.lines.specs.declared.line.Line.{Line}
 use Rattle.lines.specs.declared.measured.Measured.{Measured}
 use Rattle.lines.specs.Rule.{raise}
@@ -17,14 +20,28 @@ use Rattle.lines.specs.Fits.{LinesFit}
 use Rattle.letters.specs.declared.letter.Letter.{Letter}
 use Rattle.letters.specs.declared.letter.Letter.the-variants.{A, B, C, D, E, F}
 use Rattle.letters.specs.Letters.{letterOf}
+use Rattle.letters.specs.Totals.{tallied}
 
--- the lines fit, no increase is planned, and there is scratch beside each line
-pub record Working (lines : List Row) (increases gains rests : List ℕ) : Type 0 where
+-- the lines fit, no increase is planned, there is scratch beside each line, and the sums are the lines' totals
+pub record Working (lines : List Row) (increases gains rests : List ℕ) (sums : List Row) : Type 0 where
   pub few : length lines ≤ mostTracks
   pub fit : LinesFit (linesOf lines)
   pub none : increases ≡ replicate (length lines) 0
   pub gains-long : length gains ≡ length lines
   pub rests-long : length rests ≡ length lines
+  pub totals : sums ≡ tallied (linesOf lines)
+
+-- ---- Lines at rest, as they are between batches: no limit is below its base, none is infinitely growable
+
+abbrev pub above : ℕ → Limit → Type 0
+above base None = Unit {0}
+above base (UpTo n) = base ≤ n
+
+abbrev pub AtRest : Line → Type 0
+AtRest l = above (l .base) (l .limit) × (l .grows ≡ false)
+
+abbrev pub Calm : List Line → Type 0
+Calm = All AtRest
 
 -- ---- The letters by number
 

@@ -2,14 +2,17 @@
 use kinds::Constraint;
 use kinds::Item;
 use letters::Letter;
+use letters::affects_some;
 use letters::apply;
 use letters::extra;
 use letters::lay_over;
 use letters::share_extra;
+use letters::tally;
 use lines::Measured;
 use lines::Part;
 use lines::part_of;
 ghost use mathlib.Core.Path.{_≡_};
+ghost use mathlib.Core.Bool.{false};
 ghost use Prim.Native.Nat.{ℕ, _-_, _≤_, _<_};
 ghost use lib.ListN.{length, getD, replicate};
 ghost use Rattle.laws.specs.Lists.{inTurn, upFrom};
@@ -20,9 +23,11 @@ ghost use Rattle.lines.specs.Rows.{linesOf};
 ghost use Rattle.lines.specs.Fits.{LinesFit, MeasuredFits, MeasuredFit};
 ghost use Rattle.lines.specs.Chains.{chained, ChainFits, Whole};
 ghost use Rattle.letters.specs.Letters.{letterOf};
-ghost use Rattle.spans.specs.Work.{Working, letterAt, hasPlace, letterStep, letterSteps};
+ghost use Rattle.letters.specs.Totals.{tallied};
+ghost use Rattle.spans.specs.Work.{Working, Calm, letterAt, hasPlace, letterStep, letterSteps};
 
-// What one item gives each line that it spans is laid over the increases. Gains and rests are scratch.
+// What one item gives each line that it spans is laid over the increases. Gains and rests are scratch, the sums are the lines'
+// totals. Whether anything was laid over comes back: an item that asks nothing, or of no affected line, gives nothing.
 fn plan_item(
     letter: Letter,
     constraint: Constraint,
@@ -31,17 +36,26 @@ fn plan_item(
     increases: &mut [u32],
     gains: &mut [u32],
     rests: &mut [u32],
-)
-    requires { ⌜ (length (now lines) ≤ mostTracks) × (length (now increases) ≡ length (now lines)) × (length (now gains) ≡ length (now lines)) × (length (now rests) ≡ length (now lines)) × LinesFit (linesOf (now lines)) × MeasuredFits (length (now lines)) item ⌝ }
-    ensures { λ _. ⌜ now (increases .exit) ≡ increasedBy (letterOf letter) constraint (linesOf (now (lines .entry))) item (now (increases .entry)) ⌝ }
+    sums: &[[u64; 2]],
+) -> bool
+    requires { ⌜ (length (now lines) ≤ mostTracks) × (length (now increases) ≡ length (now lines)) × (length (now gains) ≡ length (now lines)) × (length (now rests) ≡ length (now lines)) × LinesFit (linesOf (now lines)) × MeasuredFits (length (now lines)) item × (now sums ≡ tallied (linesOf (now lines))) ⌝ }
+    ensures { λ r. ⌜ (now (increases .exit) ≡ increasedBy (letterOf letter) constraint (linesOf (now (lines .entry))) item (now (increases .entry))) × (r ≡ false → now (increases .exit) ≡ now (increases .entry)) ⌝ }
 {
     let a = item.start as usize;
     let n = item.span as usize;
     let e = a + n;
     let on = &lines[a..e];
-    let dots = extra(letter, constraint, item, on);
+    let total = letter.total_between(sums[a], sums[e]);
+    let dots = extra(letter, constraint, item, on, total);
+    if dots == 0 {
+        return false;
+    }
+    if !affects_some(letter, on) {
+        return false;
+    }
     share_extra(letter, dots, on, &mut gains[..n], &mut rests[..n]);
     lay_over(&gains[..n], &mut increases[a..e]);
+    true
 }
 
 fn plan_part(
@@ -52,18 +66,30 @@ fn plan_part(
     increases: &mut [u32],
     gains: &mut [u32],
     rests: &mut [u32],
-)
-    requires { ⌜ (length (now lines) ≤ mostTracks) × (length (now increases) ≡ length (now lines)) × (length (now gains) ≡ length (now lines)) × (length (now rests) ≡ length (now lines)) × LinesFit (linesOf (now lines)) × MeasuredFit (length (now lines)) (complete (itemOf row)) ⌝ }
-    ensures { λ _. ⌜ now (increases .exit) ≡ inTurn (increasedBy (letterOf letter) constraint (linesOf (now (lines .entry)))) (complete (itemOf row)) (now (increases .entry)) ⌝ }
+    sums: &[[u64; 2]],
+) -> bool
+    requires { ⌜ (length (now lines) ≤ mostTracks) × (length (now increases) ≡ length (now lines)) × (length (now gains) ≡ length (now lines)) × (length (now rests) ≡ length (now lines)) × LinesFit (linesOf (now lines)) × MeasuredFit (length (now lines)) (complete (itemOf row)) × (now sums ≡ tallied (linesOf (now lines))) ⌝ }
+    ensures { λ r. ⌜ (now (increases .exit) ≡ inTurn (increasedBy (letterOf letter) constraint (linesOf (now (lines .entry)))) (complete (itemOf row)) (now (increases .entry))) × (r ≡ false → now (increases .exit) ≡ now (increases .entry)) ⌝ }
 {
     let part = part_of(Item::of_row(row));
     match part {
-        Part::LeftOut => {}
-        Part::Takes(item) => { plan_item(letter, constraint, item, lines, increases, gains, rests) }
+        Part::LeftOut => false,
+        Part::Takes(item) => {
+            plan_item(
+                letter,
+                constraint,
+                item,
+                lines,
+                increases,
+                gains,
+                rests,
+                sums,
+            )
+        }
     }
 }
 
-// The increases of a batch: each item in its turn looks at the lines as they were.
+// The increases of a batch: each item in its turn looks at the lines as they were. Whether there are any comes back.
 fn plan_batch(
     letter: Letter,
     constraint: Constraint,
@@ -74,21 +100,37 @@ fn plan_batch(
     increases: &mut [u32],
     gains: &mut [u32],
     rests: &mut [u32],
-)
-    requires { ⌜ (length (now lines) ≤ mostTracks) × (length (now increases) ≡ length (now lines)) × (length (now gains) ≡ length (now lines)) × (length (now rests) ≡ length (now lines)) × LinesFit (linesOf (now lines)) × ChainFits (length (now lines)) (now items) (now nexts) first ⌝ }
-    ensures { λ _. ⌜ now (increases .exit) ≡ inTurn (increasedBy (letterOf letter) constraint (linesOf (now (lines .entry)))) (chained (now (items .entry)) (now (nexts .entry)) first) (now (increases .entry)) ⌝ }
+    sums: &[[u64; 2]],
+) -> bool
+    requires { ⌜ (length (now lines) ≤ mostTracks) × (length (now increases) ≡ length (now lines)) × (length (now gains) ≡ length (now lines)) × (length (now rests) ≡ length (now lines)) × LinesFit (linesOf (now lines)) × ChainFits (length (now lines)) (now items) (now nexts) first × (now sums ≡ tallied (linesOf (now lines))) ⌝ }
+    ensures { λ r. ⌜ (now (increases .exit) ≡ inTurn (increasedBy (letterOf letter) constraint (linesOf (now (lines .entry)))) (chained (now (items .entry)) (now (nexts .entry)) first) (now (increases .entry))) × (r ≡ false → now (increases .exit) ≡ now (increases .entry)) ⌝ }
 {
+    let mut planned = false;
     let mut i = first;
     while i < items.len() {
-        plan_part(letter, constraint, items[i], lines, increases, gains, rests);
+        let gives = plan_part(
+            letter,
+            constraint,
+            items[i],
+            lines,
+            increases,
+            gains,
+            rests,
+            sums,
+        );
+        planned = planned | gives;
         i = nexts[i];
     }
+    planned
 }
 
-// One letter: increases are planned over the whole batch, then applied. They are all 0 before and after.
+// One letter: increases are planned over the whole batch, then applied, and the totals made anew. The increases are all 0 before
+// and after. Where nothing is planned a letter changes no calm line. `moved` says that a letter of the batch has changed lines;
+// it comes back for the next.
 fn raise(
     letter: Letter,
     constraint: Constraint,
+    moved: bool,
     first: usize,
     nexts: &[usize],
     items: &[[u32; 7]],
@@ -96,11 +138,12 @@ fn raise(
     increases: &mut [u32],
     gains: &mut [u32],
     rests: &mut [u32],
-)
-    requires { ⌜ Working (now lines) (now increases) (now gains) (now rests) × ChainFits (length (now lines)) (now items) (now nexts) first ⌝ }
-    ensures { λ _. ⌜ (linesOf (now (lines .exit)) ≡ raise constraint (chained (now (items .entry)) (now (nexts .entry)) first) (letterOf letter) (linesOf (now (lines .entry)))) × LinesFit (linesOf (now (lines .exit))) × (now (increases .exit) ≡ replicate (length (now (lines .entry))) 0) ⌝ }
+    sums: &mut [[u64; 2]],
+) -> bool
+    requires { ⌜ Working (now lines) (now increases) (now gains) (now rests) (now sums) × ChainFits (length (now lines)) (now items) (now nexts) first × (moved ≡ false → Calm (linesOf (now lines))) ⌝ }
+    ensures { λ r. ⌜ (linesOf (now (lines .exit)) ≡ raise constraint (chained (now (items .entry)) (now (nexts .entry)) first) (letterOf letter) (linesOf (now (lines .entry)))) × LinesFit (linesOf (now (lines .exit))) × (now (increases .exit) ≡ replicate (length (now (lines .entry))) 0) × (now (sums .exit) ≡ tallied (linesOf (now (lines .exit)))) × (r ≡ false → Calm (linesOf (now (lines .exit)))) ⌝ }
 {
-    plan_batch(
+    let planned = plan_batch(
         letter,
         constraint,
         first,
@@ -110,8 +153,15 @@ fn raise(
         increases,
         gains,
         rests,
+        sums,
     );
+    let moves = moved | planned;
+    if !moves {
+        return false;
+    }
     apply(letter, lines, increases);
+    tally(lines, sums);
+    true
 }
 
 fn letter_at(k: u32) -> Letter
@@ -153,6 +203,7 @@ fn has_place(k: u32, constraint: Constraint) -> bool
 fn raise_at(
     k: u32,
     constraint: Constraint,
+    moved: bool,
     first: usize,
     nexts: &[usize],
     items: &[[u32; 7]],
@@ -160,16 +211,18 @@ fn raise_at(
     increases: &mut [u32],
     gains: &mut [u32],
     rests: &mut [u32],
-)
-    requires { ⌜ Working (now lines) (now increases) (now gains) (now rests) × ChainFits (length (now lines)) (now items) (now nexts) first ⌝ }
-    ensures { λ _. ⌜ (linesOf (now (lines .exit)) ≡ letterStep k constraint (chained (now (items .entry)) (now (nexts .entry)) first) (linesOf (now (lines .entry)))) × LinesFit (linesOf (now (lines .exit))) × (now (increases .exit) ≡ replicate (length (now (lines .entry))) 0) ⌝ }
+    sums: &mut [[u64; 2]],
+) -> bool
+    requires { ⌜ Working (now lines) (now increases) (now gains) (now rests) (now sums) × ChainFits (length (now lines)) (now items) (now nexts) first × (moved ≡ false → Calm (linesOf (now lines))) ⌝ }
+    ensures { λ r. ⌜ (linesOf (now (lines .exit)) ≡ letterStep k constraint (chained (now (items .entry)) (now (nexts .entry)) first) (linesOf (now (lines .entry)))) × LinesFit (linesOf (now (lines .exit))) × (now (increases .exit) ≡ replicate (length (now (lines .entry))) 0) × (now (sums .exit) ≡ tallied (linesOf (now (lines .exit)))) × (r ≡ false → Calm (linesOf (now (lines .exit)))) ⌝ }
 {
     if !has_place(k, constraint) {
-        return;
+        return moved;
     }
     raise(
         letter_at(k),
         constraint,
+        moved,
         first,
         nexts,
         items,
@@ -177,7 +230,8 @@ fn raise_at(
         increases,
         gains,
         rests,
-    );
+        sums,
+    )
 }
 
 // One batch, all its letters; without items it changes nothing.
@@ -190,9 +244,10 @@ pub fn batched(
     increases: &mut [u32],
     gains: &mut [u32],
     rests: &mut [u32],
+    sums: &mut [[u64; 2]],
 )
-    requires { ⌜ Working (now lines) (now increases) (now gains) (now rests) × ChainFits (length (now lines)) (now items) (now nexts) first × Whole (now items) (now nexts) first ⌝ }
-    ensures { λ _. ⌜ (linesOf (now (lines .exit)) ≡ batched constraint (chained (now (items .entry)) (now (nexts .entry)) first) (linesOf (now (lines .entry)))) × LinesFit (linesOf (now (lines .exit))) × (now (increases .exit) ≡ replicate (length (now (lines .entry))) 0) ⌝ }
+    requires { ⌜ Working (now lines) (now increases) (now gains) (now rests) (now sums) × ChainFits (length (now lines)) (now items) (now nexts) first × Whole (now items) (now nexts) first × Calm (linesOf (now lines)) ⌝ }
+    ensures { λ _. ⌜ (linesOf (now (lines .exit)) ≡ batched constraint (chained (now (items .entry)) (now (nexts .entry)) first) (linesOf (now (lines .entry)))) × LinesFit (linesOf (now (lines .exit))) × (now (increases .exit) ≡ replicate (length (now (lines .entry))) 0) × (now (sums .exit) ≡ tallied (linesOf (now (lines .exit)))) × Calm (linesOf (now (lines .exit))) ⌝ }
 {
     if first >= items.len() {
         return;
@@ -206,6 +261,7 @@ pub fn batched(
         increases,
         gains,
         rests,
+        sums,
     );
 }
 
@@ -218,15 +274,18 @@ fn raise_all(
     increases: &mut [u32],
     gains: &mut [u32],
     rests: &mut [u32],
+    sums: &mut [[u64; 2]],
 )
-    requires { ⌜ Working (now lines) (now increases) (now gains) (now rests) × ChainFits (length (now lines)) (now items) (now nexts) first ⌝ }
-    ensures { λ _. ⌜ (linesOf (now (lines .exit)) ≡ letterSteps 6 constraint (chained (now (items .entry)) (now (nexts .entry)) first) (linesOf (now (lines .entry)))) × LinesFit (linesOf (now (lines .exit))) × (now (increases .exit) ≡ replicate (length (now (lines .entry))) 0) ⌝ }
+    requires { ⌜ Working (now lines) (now increases) (now gains) (now rests) (now sums) × ChainFits (length (now lines)) (now items) (now nexts) first × Calm (linesOf (now lines)) ⌝ }
+    ensures { λ _. ⌜ (linesOf (now (lines .exit)) ≡ letterSteps 6 constraint (chained (now (items .entry)) (now (nexts .entry)) first) (linesOf (now (lines .entry)))) × LinesFit (linesOf (now (lines .exit))) × (now (increases .exit) ≡ replicate (length (now (lines .entry))) 0) × (now (sums .exit) ≡ tallied (linesOf (now (lines .exit)))) ⌝ }
 {
+    let mut moved = false;
     let mut k: u32 = 0;
     while k < 6 {
-        raise_at(
+        moved = raise_at(
             k,
             constraint,
+            moved,
             first,
             nexts,
             items,
@@ -234,6 +293,7 @@ fn raise_all(
             increases,
             gains,
             rests,
+            sums,
         );
         k += 1;
     }
@@ -249,9 +309,10 @@ pub fn longer(
     increases: &mut [u32],
     gains: &mut [u32],
     rests: &mut [u32],
+    sums: &mut [[u64; 2]],
 )
-    requires { ⌜ Working (now lines) (now increases) (now gains) (now rests) × (length (now lines) < length (now heads)) × ((k : ℕ) → 0 < k → k ≤ length (now lines) → ChainFits (length (now lines)) (now items) (now nexts) (getD (now heads) k 0) × Whole (now items) (now nexts) (getD (now heads) k 0)) ⌝ }
-    ensures { λ _. ⌜ (linesOf (now (lines .exit)) ≡ inTurn (λ (k : ℕ). batched constraint (chained (now (items .entry)) (now (nexts .entry)) (getD (now (heads .entry)) k 0))) (upFrom 2 (length (now (lines .entry)) - 1)) (linesOf (now (lines .entry)))) × LinesFit (linesOf (now (lines .exit))) × (now (increases .exit) ≡ replicate (length (now (lines .entry))) 0) ⌝ }
+    requires { ⌜ Working (now lines) (now increases) (now gains) (now rests) (now sums) × (length (now lines) < length (now heads)) × ((k : ℕ) → 0 < k → k ≤ length (now lines) → ChainFits (length (now lines)) (now items) (now nexts) (getD (now heads) k 0) × Whole (now items) (now nexts) (getD (now heads) k 0)) × Calm (linesOf (now lines)) ⌝ }
+    ensures { λ _. ⌜ (linesOf (now (lines .exit)) ≡ inTurn (λ (k : ℕ). batched constraint (chained (now (items .entry)) (now (nexts .entry)) (getD (now (heads .entry)) k 0))) (upFrom 2 (length (now (lines .entry)) - 1)) (linesOf (now (lines .entry)))) × LinesFit (linesOf (now (lines .exit))) × (now (increases .exit) ≡ replicate (length (now (lines .entry))) 0) × (now (sums .exit) ≡ tallied (linesOf (now (lines .exit)))) × Calm (linesOf (now (lines .exit))) ⌝ }
 {
     let mut k = 2;
     while k <= lines.len() {
@@ -264,6 +325,7 @@ pub fn longer(
             increases,
             gains,
             rests,
+            sums,
         );
         k += 1;
     }

@@ -1,4 +1,4 @@
--- What the face answers and writes, by what a proved call told. Assumes nothing.
+-- What the float functions answer and write, by what a proved call told. Assumes nothing.
 use Prim.Native.Nat.{ℕ}
 use mathlib.Core.Path.{_≡_, refl}
 use mathlib.Core.Bool.{Bool}

@@ -1,4 +1,4 @@
--- What a function of the C face answers, and what it leaves where it was told to write. Assumes nothing.
+-- What a float function of the C face answers, and what it leaves where it was told to write. Assumes nothing.
 use Prim.Native.Nat.{ℕ}
 use mathlib.Core.Bool.{Bool}
 use mathlib.Core.List.{List}

@@ -21,13 +21,13 @@ enum-known-read-2 c = search needs
 
 -- what holds in the arm of a sheet that was read
 read-at : (c : lts.After-known-told2 (read-reads.Asked, read-reads.Learnt, size-sheet-reads.Asked, size-sheet-reads.Learnt) reads.Pre reads.Post)
-    → SheetRead (c .before .before .before .before .before .before .before .before .before .args .bytes .now) (c .before .before .before .before .before .before .before .before .before .args .tracks .now) (c .before .before .before .before .before .before .before .before .before .args .items .now) (c .before .before .before .before .before .before .before .before .before .pre .0) (c .before .before .before .before .before .before .before .before .before .pre .1) (c .before .before .before .before .before .read .last .1 .0) (c .before .before .before .before .before .read .last .1 .1 .0) (c .before .read3 .given .0 .0) (c .before .read3 .given .0 .1 .0) (c .before .read3 .given .0 .1 .1 .0)
+    → SheetRead (c .before .before .before .before .before .before .before .before .before .args .bytes .now) (c .before .before .before .before .before .before .before .before .before .args .tracks .now) (c .before .before .before .before .before .before .before .before .before .args .items .now) (c .before .before .before .before .before .before .before .before .before .pre) (c .before .before .before .before .before .read .last .1 .0) (c .before .before .before .before .before .read .last .1 .1 .0) (c .before .read3 .given .0 .0) (c .before .read3 .given .0 .1 .0) (c .before .read3 .given .0 .1 .1 .0)
 read-at c =
     let a = c .before .before .before .before .before .before .before .before .before .args in
     let pre = c .before .before .before .before .before .before .before .before .before .pre in
     let read = c .before .before .before .before .before .read in
     let told = c .before .read3 .given in
-    sheet-read (a .bytes .now) (a .tracks .now) (a .items .now) (pre .0) (pre .1) (read .last .1 .0) (read .last .1 .1 .0) (read .result) (told .0 .0) (told .0 .1 .0) (told .0 .1 .1 .0) (told .1) (read .ensures)
+    sheet-read (a .bytes .now) (a .tracks .now) (a .items .now) pre (read .last .1 .0) (read .last .1 .1 .0) (read .result) (told .0 .0) (told .0 .1 .0) (told .0 .1 .1 .0) (told .1) (read .ensures)
 
 slice-reshare-prefix-size-sheet : tie.Need-slice-reshare-prefix-size-sheet
 slice-reshare-prefix-size-sheet c = read-at c .trackRows
@@ -56,7 +56,7 @@ returns c =
     let pre = c .before .before .before .before .before .before .before .before .before .pre in
     let read = c .before .before .before .before .before .read in
     let told = c .before .read2 .given in
-    (sheet-refused (a .bytes .now) (a .tracks .now) (a .items .now) (pre .0) (pre .1) (read .last .1 .0) (read .last .1 .1 .0) (read .result) (told .0 .0) (a .places .now) (told .1) (read .ensures), sheet-refused-own (a .bytes .now) (a .tracks .now) (a .items .now) (pre .0) (pre .1) (read .last .1 .0) (read .last .1 .1 .0) (read .result) (told .0 .0) (told .1) (read .ensures))
+    (sheet-refused (a .bytes .now) (a .tracks .now) (a .items .now) pre (read .last .1 .0) (read .last .1 .1 .0) (read .result) (told .0 .0) (a .places .now) (told .1) (read .ensures), sheet-refused-own (a .bytes .now) (a .tracks .now) (a .items .now) pre (read .last .1 .0) (read .last .1 .1 .0) (read .result) (told .0 .0) (told .1) (read .ensures))
 
 same-length-3 : tie.Need-same-length-3
 same-length-3 c = search needs
@@ -71,7 +71,7 @@ returns-2 : tie.Need-returns-2
 returns-2 c =
     let at = c .before .before .before .before .before in
     let a = at .before .before .before .before .before .before .before .before .before .args in
-    (board-of-sheet _ _ _ _ _ _ _ _ _ _ (read-at at) (a .places .now) _ (c .before .size-sheet .ensures .0), c .before .size-sheet .ensures .1)
+    (board-of-sheet _ _ _ _ _ _ _ _ _ (read-at at) (a .places .now) _ (c .before .size-sheet .ensures .0), c .before .size-sheet .ensures .1)
 
 pub board-with-spec : {M : Type 1} → statement M
 board-with-spec =

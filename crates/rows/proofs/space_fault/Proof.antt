@@ -54,7 +54,7 @@ returns : tie.Need-returns
 unfolding rowFault
 returns c =
     let start = c .before .before .before .before .before .before .before in
-    c .first2 .ensures ∙ ap₂ first (tagged-fault-of-use constraintTags _ _ _ _ _ (c .before .before .before .before .before .fault .ensures) (c .before .before .before .before .before .before .constraint .ensures)) (c .before .first .ensures ∙ ap₂ first (tagged-fault-of-use givenTags _ _ _ _ _ (c .before .before .before .fault2 .ensures) (c .before .before .before .before .given .ensures)) (c .before .before .stretch-fault .ensures ∙ sym (first-fine _))) ∙ ap (λ (row : Row). rowFault spaceRecord row (start .args .at)) (sym (elements 0 5 (start .args .t1) (start .good .0 .1 .0 .1)))
+    (c .first2 .ensures ∙ ap₂ first (tagged-fault-of-use constraintTags _ _ _ _ _ (c .before .before .before .before .before .fault .ensures) (c .before .before .before .before .before .before .constraint .ensures)) (c .before .first .ensures ∙ ap₂ first (tagged-fault-of-use givenTags _ _ _ _ _ (c .before .before .before .fault2 .ensures) (c .before .before .before .before .given .ensures)) (c .before .before .stretch-fault .ensures ∙ sym (first-fine _))) ∙ ap (λ (row : Row). rowFault spaceRecord row (start .args .at)) (sym (elements 0 5 (start .args .t1) (start .good .0 .1 .0 .1))), start .good .0 .1 .0 .1)
 
 pub space-fault-spec : {M : Type 1} → statement M
 space-fault-spec =

@@ -1,7 +1,7 @@
 -- `content` prepares the lines and spreads the longer spans. Assumes nothing.
 use borrow.Author.Needs.{needs}
 use Rattle.sizing.proofs.content.content.Statement.{statement}
-use mathlib.Core.Path.{_≡_, sym, _∙_}
+use mathlib.Core.Path.{_≡_, refl, sym, _∙_, subst}
 use mathlib.Core.List.{map}
 use Prim.Native.Nat.{_≤_}
 use native.Mathlib.Omega.{arith}
@@ -9,6 +9,8 @@ use lib.ListN.{length, length-map}
 use Rattle.kinds.specs.Kinds.{trackOf, itemOf}
 use Rattle.letters.proofs.Shared.{zeros-as}
 use Rattle.chains.proofs.Batches.{gathered-fits, gathered-whole}
+use Rattle.spans.specs.Work.{Calm}
+use Rattle.spans.proofs.Calm.{singles-calm}
 use Rattle.spans.proofs.Raised.{chain-fits-as}
 use Rattle.sizing.proofs.Contents.{items-fit-as, content-made}
 use Rattle.sizing.proofs.content.content.Tie as tie
@@ -30,12 +32,13 @@ spread-requires c κs =
     let kept = c .before .before .before .before .before .before .lines .given in
     let held = c .before .before .before .before .before .before .before .before .before .before .heads .given in
     let same : length ls ≡ length (a .tracks .now) = search needs in (
-      record { few = omega (arith, s .pre .0); fit = p .1; none = zeros-as {m = length (a .tracks .now)} {n = length ls} (s .pre .6) (sym same); gains-long = s .pre .7 ∙ sym same; rests-long = s .pre .8 ∙ sym same },
+      record { few = omega (arith, s .pre .0); fit = p .1; none = zeros-as {m = length (a .tracks .now)} {n = length ls} (s .pre .6) (sym same); gains-long = s .pre .7 ∙ sym same; rests-long = s .pre .8 ∙ sym same; totals = refl },
       search needs,
       λ k low high. (
         chain-fits-as (a .items .now) _ _ (same ∙ back) (gathered-fits ts (a .items .now) _ _ few items (search needs) (p .2) k low high),
         gathered-whole ts (a .items .now) _ _ few items (search needs) (p .2) k low high,
       ),
+      subst Calm (sym (p .0)) (singles-calm (a .constraint) _ ts),
     )
 
 same-length : tie.Need-same-length

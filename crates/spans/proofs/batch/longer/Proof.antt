@@ -9,28 +9,30 @@ use Rattle.laws.specs.Lists.{inTurn, upFrom}
 use Rattle.lines.specs.Rule.{batched}
 use Rattle.lines.specs.Rows.{linesOf}
 use Rattle.lines.specs.Chains.{chained}
-use Rattle.spans.specs.Work.{Working}
+use Rattle.spans.specs.Work.{Working, Calm}
 use Rattle.spans.proofs.Parts.{up-turn, up-end}
+use Rattle.spans.proofs.Planned.{sums-long}
 use Rattle.spans.proofs.Raised.{working-after, chain-fits-as}
 use Rattle.spans.proofs.batch.longer.Tie as tie
 
 abbrev Inv-loop : tie.InvT-loop
-Inv-loop constraint heads nexts items lines₀ increases₀ gains₀ rests₀ k₀ lines increases gains rests k =
-    Working lines increases gains rests
+Inv-loop constraint heads nexts items lines₀ increases₀ gains₀ rests₀ sums₀ k₀ lines increases gains rests sums k =
+    Working lines increases gains rests sums
     × (length lines ≡ length lines₀)
     × (2 ≤ k)
     × (inTurn (λ (j : ℕ). batched constraint (chained items nexts (getD heads j 0))) (upFrom k (length lines₀ + 1 - k)) (linesOf lines)
     ≡ inTurn (λ (j : ℕ). batched constraint (chained items nexts (getD heads j 0))) (upFrom 2 (length lines₀ - 1)) (linesOf lines₀))
+    × Calm (linesOf lines)
 
 abbrev μ-loop : tie.MeasureT-loop
-μ-loop constraint heads nexts items lines₀ increases₀ gains₀ rests₀ k₀ lines increases gains rests k = length lines₀ + 1 - k
+μ-loop constraint heads nexts items lines₀ increases₀ gains₀ rests₀ sums₀ k₀ lines increases gains rests sums k = length lines₀ + 1 - k
 
 loop-holds : tie.Need-loop-holds Inv-loop μ-loop
 loop-holds c =
     let s = c .before .before .before .before .before in
     let a = s .args in
     let n : length (a .lines .now) + 1 - 2 ≡ length (a .lines .now) - 1 = omega arith in
-    (s .pre .0, refl, search needs, ap (λ (m : ℕ). inTurn (λ (j : ℕ). batched (a .constraint) (chained (a .items .now) (a .nexts .now) (getD (a .heads .now) j 0))) (upFrom 2 m) (linesOf (a .lines .now))) n)
+    (s .pre .0, refl, search needs, ap (λ (m : ℕ). inTurn (λ (j : ℕ). batched (a .constraint) (chained (a .items .now) (a .nexts .now) (getD (a .heads .now) j 0))) (upFrom 2 m) (linesOf (a .lines .now))) n, s .pre .3)
 
 mul-batched : tie.Need-mul-batched Inv-loop μ-loop
 mul-batched c = search needs
@@ -44,15 +46,15 @@ shared-slice-read-batched c =
 
 batched-requires : tie.Need-batched-requires Inv-loop μ-loop
 batched-requires c κs =
-    let s = c .before .before .before .before .before .before .before .before .before .before .before .before in
+    let s = c .before .before .before .before .before .before .before .before .before .before .before .before .before in
     let a = s .args in
-    let h = c .before .before .before .before .before .before .loop in
+    let h = c .before .before .before .before .before .before .before .loop in
     let same = h .inv .1 in
     let two = h .inv .2 in
     let low : 0 < h .k = omega arith in
     let high : h .k ≤ length (a .lines .now) = search needs in
     let f = s .pre .2 (h .k) low high in
-    (h .inv .0, chain-fits-as (a .items .now) (a .nexts .now) (getD (a .heads .now) (h .k) 0) same (f .0), f .1)
+    (h .inv .0, chain-fits-as (a .items .now) (a .nexts .now) (getD (a .heads .now) (h .k) 0) same (f .0), f .1, h .inv .4)
 
 add-k : tie.Need-add-k Inv-loop μ-loop
 add-k c = search needs
@@ -62,17 +64,18 @@ loop-less c = search needs
 
 loop-again : tie.Need-loop-again Inv-loop μ-loop
 loop-again c =
-    let s = c .before .before .before .before .before .before .before .before .before .before .before .before .before .before .before .before .before .before .before .before in
+    let s = c .before .before .before .before .before .before .before .before .before .before .before .before .before .before .before .before .before .before .before .before .before .before in
     let a = s .args in
-    let h = c .before .before .before .before .before .before .before .before .before .before .before .before .before .before .loop in
-    let e = c .before .before .before .before .before .before .before .batched .ensures in
+    let h = c .before .before .before .before .before .before .before .before .before .before .before .before .before .before .before .before .loop in
+    let e = c .before .before .before .before .before .before .before .before .batched .ensures in
     let same = h .inv .1 in
     let high : h .k ≤ length (a .lines .now) = search needs in
     let n : length (a .lines .now) + 1 - h .k ≡ suc (length (a .lines .now) + 1 - (h .k + 1)) = omega arith in (
-      working-after (h .inv .0) (search needs) (search needs) (search needs) (e .1) (e .2),
+      working-after (h .inv .0) (search needs) (search needs) (search needs) (e .1) (e .2) (e .3),
       search needs,
       search needs,
       up-turn (λ (j : ℕ). batched (a .constraint) (chained (a .items .now) (a .nexts .now) (getD (a .heads .now) j 0))) (h .k) (length (a .lines .now) + 1 - h .k) (length (a .lines .now) + 1 - (h .k + 1)) (linesOf (h .lines)) _ _ n (h .inv .3) (e .0),
+      e .4,
     )
 
 same-length : tie.Need-same-length Inv-loop μ-loop
@@ -90,6 +93,12 @@ same-length-3 c = search needs
 same-length-4 : tie.Need-same-length-4 Inv-loop μ-loop
 same-length-4 c = search needs
 
+same-length-5 : tie.Need-same-length-5 Inv-loop μ-loop
+same-length-5 c =
+    let s = c .before .before .before .before .before .before .before in
+    let h = c .before .loop in
+    sums-long (h .lines) (h .sums) (h .inv .0 .totals) ∙ ap (_+ 1) (h .inv .1) ∙ sym (sums-long (s .args .lines .now) (s .args .sums .now) (s .pre .0 .totals))
+
 returns : tie.Need-returns Inv-loop μ-loop
 returns c =
     let s = c .before .before .before .before .before .before .before in
@@ -97,8 +106,13 @@ returns c =
     let h = c .before .loop in
     let w = h .inv .0 in
     let same = h .inv .1 in
-    let out : length (a .lines .now) < h .k = search needs in
-    (up-end (λ (j : ℕ). batched (a .constraint) (chained (a .items .now) (a .nexts .now) (getD (a .heads .now) j 0))) (h .k) (length (a .lines .now) + 1 - h .k) (linesOf (h .lines)) _ (omega arith) (h .inv .3), w .fit, w .none ∙ ap (λ (n : ℕ). replicate n 0) same)
+    let out : length (a .lines .now) < h .k = search needs in (
+      up-end (λ (j : ℕ). batched (a .constraint) (chained (a .items .now) (a .nexts .now) (getD (a .heads .now) j 0))) (h .k) (length (a .lines .now) + 1 - h .k) (linesOf (h .lines)) _ (omega arith) (h .inv .3),
+      w .fit,
+      w .none ∙ ap (λ (n : ℕ). replicate n 0) same,
+      w .totals,
+      h .inv .4,
+    )
 
 pub longer-spec : {M : Type 1} → statement M
 longer-spec =
@@ -117,4 +131,5 @@ longer-spec =
     same-length-2
     same-length-3
     same-length-4
+    same-length-5
     returns)

@@ -1,7 +1,8 @@
 -- `plan_batch` walks a chain: each item in its turn is laid over the increases. Assumes nothing.
 use borrow.Author.Needs.{needs}
 use Rattle.spans.proofs.batch.plan_batch.Statement.{statement}
-use mathlib.Core.Path.{_≡_, refl}
+use mathlib.Core.Path.{_≡_, refl, _∙_}
+use mathlib.Core.Bool.{Bool, false}
 use Prim.Native.Nat.{_-_, _<_}
 use lib.ListN.{length}
 use Rattle.laws.specs.Lists.{inTurn}
@@ -11,23 +12,25 @@ use Rattle.lines.specs.Fits.{MeasuredFits, MeasuredFit}
 use Rattle.lines.specs.Chains.{chained}
 use Rattle.lines.proofs.Chains.{walk-turn, walk-end, all-part, all-rest}
 use Rattle.letters.specs.Letters.{letterOf}
+use Rattle.spans.proofs.Parts.{or-neither}
 use Rattle.spans.proofs.batch.plan_batch.Tie as tie
 
 abbrev Inv-loop : tie.InvT-loop
-Inv-loop letter constraint first nexts items lines increases₀ gains₀ rests₀ i₀ increases gains rests i =
+Inv-loop letter constraint first nexts items lines increases₀ gains₀ rests₀ sums planned₀ i₀ increases gains rests planned i =
     (length increases ≡ length lines)
     × (length gains ≡ length lines)
     × (length rests ≡ length lines)
     × MeasuredFit (length lines) (chained items nexts i)
     × (inTurn (increasedBy (letterOf letter) constraint (linesOf lines)) (chained items nexts i) increases ≡ inTurn (increasedBy (letterOf letter) constraint (linesOf lines)) (chained items nexts first) increases₀)
+    × (planned ≡ false → increases ≡ increases₀)
 
 abbrev μ-loop : tie.MeasureT-loop
-μ-loop letter constraint first nexts items lines increases₀ gains₀ rests₀ i₀ increases gains rests i = length items - i
+μ-loop letter constraint first nexts items lines increases₀ gains₀ rests₀ sums planned₀ i₀ increases gains rests planned i = length items - i
 
 loop-holds : tie.Need-loop-holds Inv-loop μ-loop
 loop-holds c =
     let s = c .before .before .before .before in
-    (s .pre .1, s .pre .2, s .pre .3, s .pre .5 .fit, refl)
+    (s .pre .1, s .pre .2, s .pre .3, s .pre .5 .fit, refl, λ _. refl)
 
 mul-plan-part : tie.Need-mul-plan-part Inv-loop μ-loop
 mul-plan-part c = search needs
@@ -42,7 +45,7 @@ plan-part-requires c κs =
     let f = s .pre .5 in
     let long = f .long in
     let k : h .i < length (s .args .nexts .now) = search needs in
-    (s .pre .0, h .inv .0, h .inv .1, h .inv .2, s .pre .4, all-part (s .args .items .now) (s .args .nexts .now) (h .i) (f .rising) k (MeasuredFits (length (s .args .lines .now))) (h .inv .3))
+    (s .pre .0, h .inv .0, h .inv .1, h .inv .2, s .pre .4, all-part (s .args .items .now) (s .args .nexts .now) (h .i) (f .rising) k (MeasuredFits (length (s .args .lines .now))) (h .inv .3), s .pre .6)
 
 mul-i : tie.Need-mul-i Inv-loop μ-loop
 mul-i c =
@@ -75,7 +78,8 @@ loop-again c =
       search needs,
       search needs,
       all-rest (s .args .items .now) (s .args .nexts .now) (h .i) (f .rising) k (MeasuredFits (length (s .args .lines .now))) (h .inv .3),
-      walk-turn (s .args .items .now) (s .args .nexts .now) (h .i) (f .rising) k (increasedBy (letterOf (s .args .letter)) (s .args .constraint) (linesOf (s .args .lines .now))) (h .increases) _ _ (h .inv .4) (c .before .before .before .before .before .before .before .plan-part .ensures),
+      walk-turn (s .args .items .now) (s .args .nexts .now) (h .i) (f .rising) k (increasedBy (letterOf (s .args .letter)) (s .args .constraint) (linesOf (s .args .lines .now))) (h .increases) _ _ (h .inv .4) (c .before .before .before .before .before .before .before .plan-part .ensures .0),
+      λ e. let n = or-neither _ _ e in c .before .before .before .before .before .before .before .plan-part .ensures .1 (n .1) ∙ h .inv .5 (n .0),
     )
 
 same-length : tie.Need-same-length Inv-loop μ-loop
@@ -92,7 +96,7 @@ returns c =
     let s = c .before .before .before .before .before .before in
     let h = c .before .loop in
     let long = s .pre .5 .long in
-    walk-end (s .args .items .now) (s .args .nexts .now) (h .i) (increasedBy (letterOf (s .args .letter)) (s .args .constraint) (linesOf (s .args .lines .now))) (h .increases) _ (search needs) (h .inv .4)
+    (walk-end (s .args .items .now) (s .args .nexts .now) (h .i) (increasedBy (letterOf (s .args .letter)) (s .args .constraint) (linesOf (s .args .lines .now))) (h .increases) _ (search needs) (h .inv .4), h .inv .5)
 
 pub plan-batch-spec : {M : Type 1} → statement M
 plan-batch-spec =

@@ -1,12 +1,13 @@
+-- `plan_item` lays what one item gives over the increases, if it gives anything. Assumes nothing.
 use borrow.Author.Needs.{needs}
 use Rattle.spans.proofs.batch.plan_item.Statement.{statement}
-use mathlib.Core.Path.{sym, _∙_}
+use mathlib.Core.Path.{_≡_, refl, sym, _∙_}
+use mathlib.Core.Bool.{Bool, true, false, true≢false}
+use borrow.Author.Tests.{not-true}
 use native.Mathlib.Omega.{arith}
 use lib.Seq.{length-take-le}
-use Rattle.spans.proofs.Planned.{length-between, between-few, between-fits, extra-few, laid-over, gains-long}
+use Rattle.spans.proofs.Planned.{length-between, between-few, between-fits, extra-few, laid-over, gains-long, sums-long, spanned-rises, spanned-total, asks-nothing, affects-nothing}
 use Rattle.spans.proofs.batch.plan_item.Tie as tie
-
--- `plan_item` lays what one item gives over the increases. Assumes nothing.
 
 cast-a : tie.Need-cast-a
 cast-a c = search needs
@@ -29,18 +30,59 @@ part-on-start c = search needs
 part-on-end : tie.Need-part-on-end
 part-on-end c = search needs
 
+mul-total-between : tie.Need-mul-total-between
+mul-total-between c = search needs
+
+shared-slice-copy-out-total-between : tie.Need-shared-slice-copy-out-total-between
+shared-slice-copy-out-total-between c =
+    let a = c .before .before .before .before .before .before in
+    let long = sums-long (a .args .lines .now) (a .args .sums .now) (a .pre .6) in
+    let within = a .pre .5 .within in
+    search needs
+
+mul-total-between-2 : tie.Need-mul-total-between-2
+mul-total-between-2 c = search needs
+
+shared-slice-copy-out-total-between-2 : tie.Need-shared-slice-copy-out-total-between-2
+shared-slice-copy-out-total-between-2 c =
+    let a = c .before .before .before .before .before .before .before in
+    let long = sums-long (a .args .lines .now) (a .args .sums .now) (a .pre .6) in
+    let within = a .pre .5 .within in
+    search needs
+
+total-between-requires : tie.Need-total-between-requires
+total-between-requires c κs =
+    let a = c .before .before .before .before .before .before .before .before in
+    spanned-rises (a .args .lines .now) (a .args .item) (a .args .letter) (a .args .sums .now) (a .pre .6) (a .pre .5 .within)
+
 extra-requires : tie.Need-extra-requires
 extra-requires c κs =
-    let a = c .before .before .before .before .before .before in
-    let i = a .args .item in
-    (between-few (i .start) (i .span) (a .args .lines .now) (a .pre .5 .within) (a .pre .0), between-fits (i .start) (i .span) (a .args .lines .now) (a .pre .4))
+    let a = c .before .before .before .before .before .before .before .before .before in
+    let i = a .args .item in (
+      between-few (i .start) (i .span) (a .args .lines .now) (a .pre .5 .within) (a .pre .0),
+      between-fits (i .start) (i .span) (a .args .lines .now) (a .pre .4),
+      spanned-total (a .args .lines .now) i (a .args .letter) (a .args .sums .now) (a .pre .6) (a .pre .5 .within) _ (c .total-between .ensures),
+    )
+
+returns : tie.Need-returns
+returns c =
+    let a = c .before .before .before .before .before .before .before .before .before .before .before in
+    (asks-nothing (a .args .lines .now) (a .args .item) (a .args .letter) (a .args .constraint) (a .args .increases .now) _ (c .before .extra .ensures) (search needs), λ _. refl)
+
+affects-some-requires : tie.Need-affects-some-requires
+affects-some-requires c κs = search needs
+
+returns-2 : tie.Need-returns-2
+returns-2 c =
+    let a = c .before .before .before .before .before .before .before .before .before .before .before .before .before in
+    (affects-nothing (a .args .lines .now) (a .args .item) (a .args .letter) (a .args .constraint) (a .args .increases .now) (c .before .affects-some .ensures) (not-true _ (c .if2 .taken)), λ _. refl)
 
 slice-relend-prefix-share-extra : tie.Need-slice-relend-prefix-share-extra
 slice-relend-prefix-share-extra c = search needs
 
 slice-aggregate-share-extra : tie.Need-slice-aggregate-share-extra
 slice-aggregate-share-extra c =
-    let a = c .before .before .before .before .before .before .before .before in
+    let a = c .before .before .before .before .before .before .before .before .before .before .before .before .before .before in
     sym (length-take-le (a .args .item .span) (a .args .gains .now) (omega (arith, a .pre .5 .within, a .pre .2)))
 
 slice-relend-prefix-share-extra-2 : tie.Need-slice-relend-prefix-share-extra-2
@@ -48,18 +90,18 @@ slice-relend-prefix-share-extra-2 c = search needs
 
 slice-aggregate-share-extra-2 : tie.Need-slice-aggregate-share-extra-2
 slice-aggregate-share-extra-2 c =
-    let a = c .before .before .before .before .before .before .before .before .before in
+    let a = c .before .before .before .before .before .before .before .before .before .before .before .before .before .before .before in
     sym (length-take-le (a .args .item .span) (a .args .rests .now) (omega (arith, a .pre .5 .within, a .pre .3)))
 
 share-extra-requires : tie.Need-share-extra-requires
 share-extra-requires c κs =
-    let a = c .before .before .before .before .before .before .before .before .before in
+    let a = c .before .before .before .before .before .before .before .before .before .before .before .before .before .before .before in
     let i = a .args .item in
     let on = length-between (i .start) (i .span) (a .args .lines .now) (a .pre .5 .within) in (
       length-take-le (i .span) (a .args .gains .now) (omega (arith, a .pre .5 .within, a .pre .2)) ∙ sym on,
       length-take-le (i .span) (a .args .rests .now) (omega (arith, a .pre .5 .within, a .pre .3)) ∙ sym on,
       between-few (i .start) (i .span) (a .args .lines .now) (a .pre .5 .within) (a .pre .0),
-      extra-few (a .args .lines .now) i (a .args .letter) (a .args .constraint) _ _ (a .pre .5) (c .before .before .extra .ensures),
+      extra-few (a .args .lines .now) i (a .args .letter) (a .args .constraint) _ _ (a .pre .5) (c .before .before .before .before .before .extra .ensures),
     )
 
 slice-reshare-prefix-lay-over : tie.Need-slice-reshare-prefix-lay-over
@@ -67,7 +109,7 @@ slice-reshare-prefix-lay-over c = search needs
 
 slice-aggregate-lay-over : tie.Need-slice-aggregate-lay-over
 slice-aggregate-lay-over c =
-    let a = c .before .before .before .before .before .before .before .before .before .before .before .before .before .before .before in
+    let a = c .before .before .before .before .before .before .before .before .before .before .before .before .before .before .before .before .before .before .before .before .before in
     sym (gains-long (a .args .lines .now) (a .args .item) (a .args .letter) (a .args .constraint) _ _ (a .args .gains .now) (a .pre .5 .within) (c .before .before .before .before .before .share-extra .ensures))
 
 mul-lay-over : tie.Need-mul-lay-over
@@ -84,7 +126,7 @@ part-lay-over-end c = search needs
 
 lay-over-requires : tie.Need-lay-over-requires
 lay-over-requires c κs =
-    let a = c .before .before .before .before .before .before .before .before .before .before .before .before .before .before .before .before in
+    let a = c .before .before .before .before .before .before .before .before .before .before .before .before .before .before .before .before .before .before .before .before .before .before in
     let i = a .args .item in
     gains-long (a .args .lines .now) i (a .args .letter) (a .args .constraint) _ _ (a .args .gains .now) (a .pre .5 .within) (c .before .before .before .before .before .before .share-extra .ensures)
     ∙ sym (length-between (i .start) (i .span) (a .args .increases .now) (omega (arith, a .pre .5 .within, a .pre .1)))
@@ -98,12 +140,14 @@ same-length-2 c = search needs
 same-length-3 : tie.Need-same-length-3
 same-length-3 c = search needs
 
-returns : tie.Need-returns
-returns c =
-    let a = c .before .before .before .before .before .before .before .before .before .before .before .before .before .before .before .before .before .before .before in
-    let i = a .args .item in
-    laid-over (a .args .lines .now) i (a .args .letter) (a .args .constraint) (a .args .gains .now) (a .args .increases .now) _ _ _ (a .pre .5 .within)
-    (c .before .before .before .before .before .before .before .before .before .before .before .before .extra .ensures) (c .before .before .before .before .before .before .before .before .before .share-extra .ensures) (c .before .before .lay-over .ensures)
+returns-3 : tie.Need-returns-3
+returns-3 c =
+    let a = c .before .before .before .before .before .before .before .before .before .before .before .before .before .before .before .before .before .before .before .before .before .before .before .before .before in
+    let i = a .args .item in (
+      laid-over (a .args .lines .now) i (a .args .letter) (a .args .constraint) (a .args .gains .now) (a .args .increases .now) _ _ _ (a .pre .5 .within)
+          (c .before .before .before .before .before .before .before .before .before .before .before .before .before .before .before .extra .ensures) (c .before .before .before .before .before .before .before .before .before .share-extra .ensures) (c .before .before .lay-over .ensures),
+      λ e. absurd (true≢false e),
+    )
 
 pub plan-item-spec : {M : Type 1} → statement M
 plan-item-spec =
@@ -116,7 +160,15 @@ plan-item-spec =
     sub-on
     part-on-start
     part-on-end
+    mul-total-between
+    shared-slice-copy-out-total-between
+    mul-total-between-2
+    shared-slice-copy-out-total-between-2
+    total-between-requires
     extra-requires
+    returns
+    affects-some-requires
+    returns-2
     slice-relend-prefix-share-extra
     slice-aggregate-share-extra
     slice-relend-prefix-share-extra-2
@@ -132,4 +184,4 @@ plan-item-spec =
     same-length
     same-length-2
     same-length-3
-    returns)
+    returns-3)

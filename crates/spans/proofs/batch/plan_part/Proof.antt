@@ -1,6 +1,7 @@
 -- `plan_part` lays what the item in a row gives over the increases, if it takes part. Assumes nothing.
 use borrow.Author.Needs.{needs}
 use Rattle.spans.proofs.batch.plan_part.Statement.{statement}
+use mathlib.Core.Path.{refl}
 use lib.ListN.{length}
 use Rattle.lines.specs.Rule.{increasedBy}
 use Rattle.lines.specs.Rows.{linesOf}
@@ -29,12 +30,13 @@ plan-item-requires c κs =
       s .pre .3,
       s .pre .4,
       part-fits _ _ (s .args .row) (c .before .before .before .before .before .before .part-of .ensures) (c .before .before .before .before .before .before .before .of-row .ensures) _ (c .before .before .before .before .part .given .1) (length (s .args .lines .now)) (s .pre .5),
+      s .pre .6,
     )
 
 returns : tie.Need-returns
 returns c =
     let s = c .before .before .before .before .before .before .before in
-    part-left _ _ (s .args .row) (c .before .before .part-of .ensures) (c .before .before .before .of-row .ensures) (increasedBy (letterOf (s .args .letter)) (s .args .constraint) (linesOf (s .args .lines .now))) (s .args .increases .now) (c .enum-told .given .1)
+    (part-left _ _ (s .args .row) (c .before .before .part-of .ensures) (c .before .before .before .of-row .ensures) (increasedBy (letterOf (s .args .letter)) (s .args .constraint) (linesOf (s .args .lines .now))) (s .args .increases .now) (c .enum-told .given .1), λ _. refl)
 
 same-length : tie.Need-same-length
 same-length c = search needs
@@ -48,7 +50,8 @@ same-length-3 c = search needs
 returns-2 : tie.Need-returns-2
 returns-2 c =
     let s = c .before .before .before .before .before .before .before .before .before .before .before .before .before .before .before .before .before .before in
-    part-taken _ _ (s .args .row) (c .before .before .before .before .before .before .before .before .before .before .before .before .before .part-of .ensures) (c .before .before .before .before .before .before .before .before .before .before .before .before .before .before .of-row .ensures) (increasedBy (letterOf (s .args .letter)) (s .args .constraint) (linesOf (s .args .lines .now))) (s .args .increases .now) _ (c .before .before .before .before .before .before .before .before .before .before .before .part .given .1) _ (c .before .before .before .before .before .before .plan-item .ensures)
+    let e = c .before .before .before .before .before .before .plan-item .ensures in
+    (part-taken _ _ (s .args .row) (c .before .before .before .before .before .before .before .before .before .before .before .before .before .part-of .ensures) (c .before .before .before .before .before .before .before .before .before .before .before .before .before .before .of-row .ensures) (increasedBy (letterOf (s .args .letter)) (s .args .constraint) (linesOf (s .args .lines .now))) (s .args .increases .now) _ (c .before .before .before .before .before .before .before .before .before .before .before .part .given .1) _ (e .0), e .1)
 
 pub plan-part-spec : {M : Type 1} → statement M
 plan-part-spec =

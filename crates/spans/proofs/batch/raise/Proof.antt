@@ -1,25 +1,20 @@
--- `raise` plans a letter over its batch and applies it. Assumes nothing.
+-- `raise` plans a letter over its batch and applies it, unless nothing was planned and the lines are calm. Assumes nothing.
 use borrow.Author.Needs.{needs}
 use Rattle.spans.proofs.batch.raise.Statement.{statement}
 use mathlib.Core.Path.{ap, _∙_}
+use mathlib.Core.Bool.{true≢false}
+use borrow.Author.Tests.{not-true}
 use lib.ListN.{length, length-replicate}
-use Rattle.spans.proofs.Raised.{length-planned, planned-fit, raised-is}
+use Rattle.spans.proofs.Parts.{or-neither}
+use Rattle.spans.proofs.Planned.{sums-long}
+use Rattle.spans.proofs.Raised.{length-planned, planned-fit, raised-is, not-raised}
 use Rattle.spans.proofs.batch.raise.Tie as tie
 
 plan-batch-requires : tie.Need-plan-batch-requires
 plan-batch-requires c κs =
-    let s = c .before .before .before .before .before .before .before .before in
+    let s = c .before .before .before .before .before .before .before .before .before in
     let w = s .pre .0 in
-    (w .few, ap length (w .none) ∙ length-replicate _ _, w .gains-long, w .rests-long, w .fit, s .pre .1)
-
-apply-requires : tie.Need-apply-requires
-apply-requires c κs =
-    let s = c .before .before .before .before .before .before .before .before .before .before .before .before .before .before .before .before .before in
-    let w = s .pre .0 in
-    let a = s .args in (
-      length-planned (a .letter) (a .constraint) _ (a .lines .now) (a .increases .now) _ (w .none) (c .before .before .before .before .before .before .before .before .plan-batch .ensures),
-      planned-fit (a .letter) (a .constraint) _ (a .lines .now) (a .increases .now) _ (w .none) (c .before .before .before .before .before .before .before .before .plan-batch .ensures) _ (w .fit) (s .pre .1 .fit),
-    )
+    (w .few, ap length (w .none) ∙ length-replicate _ _, w .gains-long, w .rests-long, w .fit, s .pre .1, w .totals)
 
 same-length : tie.Need-same-length
 same-length c = search needs
@@ -33,22 +28,78 @@ same-length-3 c = search needs
 same-length-4 : tie.Need-same-length-4
 same-length-4 c = search needs
 
+same-length-5 : tie.Need-same-length-5
+same-length-5 c = search needs
+
 returns : tie.Need-returns
 returns c =
-    let s = c .before .before .before .before .before .before .before .before .before .before .before .before .before .before .before .before .before .before .before .before .before in
+    let s = c .before .before .before .before .before .before .before .before .before .before .before .before .before .before .before .before .before in
     let w = s .pre .0 in
     let a = s .args in
-    let r = raised-is (a .letter) (a .constraint) _ (a .lines .now) (a .increases .now) _ (w .none) (c .before .before .before .before .before .before .before .before .before .before .before .before .plan-batch .ensures) _ (w .fit) (s .pre .1 .fit) _ (c .before .before .before .apply .ensures .0) in
-    (r .0, r .1, c .before .before .before .apply .ensures .1)
+    let planned = c .before .before .before .before .before .before .before .plan-batch .ensures in
+    let off = or-neither _ _ (not-true _ (c .if1 .taken)) in
+    let calm = s .pre .2 (off .0) in
+    (not-raised (a .letter) (a .constraint) _ (a .lines .now) (a .increases .now) _ (w .none) (planned .0) (planned .1 (off .1)) calm, w .fit, planned .1 (off .1) ∙ w .none, w .totals, λ _. calm)
+
+apply-requires : tie.Need-apply-requires
+apply-requires c κs =
+    let s = c .before .before .before .before .before .before .before .before .before .before .before .before .before .before .before .before .before .before .before in
+    let w = s .pre .0 in
+    let a = s .args in
+    let planned = c .before .before .before .before .before .before .before .before .before .plan-batch .ensures in (
+      length-planned (a .letter) (a .constraint) _ (a .lines .now) (a .increases .now) _ (w .none) (planned .0),
+      planned-fit (a .letter) (a .constraint) _ (a .lines .now) (a .increases .now) _ (w .none) (planned .0) _ (w .fit) (s .pre .1 .fit),
+    )
+
+tally-requires : tie.Need-tally-requires
+tally-requires c κs =
+    let s = c .before .before .before .before .before .before .before .before .before .before .before .before .before .before .before .before .before .before .before .before .before .before .before .before .before in
+    let w = s .pre .0 in
+    let few = w .few in
+    let long = sums-long (s .args .lines .now) (s .args .sums .now) (w .totals) in
+    (search needs, search needs)
+
+same-length-6 : tie.Need-same-length-6
+same-length-6 c = search needs
+
+same-length-7 : tie.Need-same-length-7
+same-length-7 c = search needs
+
+same-length-8 : tie.Need-same-length-8
+same-length-8 c = search needs
+
+same-length-9 : tie.Need-same-length-9
+same-length-9 c = search needs
+
+same-length-10 : tie.Need-same-length-10
+same-length-10 c = search needs
+
+returns-2 : tie.Need-returns-2
+returns-2 c =
+    let s = c .before .before .before .before .before .before .before .before .before .before .before .before .before .before .before .before .before .before .before .before .before .before .before .before .before .before .before in
+    let w = s .pre .0 in
+    let a = s .args in
+    let planned = c .before .before .before .before .before .before .before .before .before .before .before .before .before .before .before .before .before .plan-batch .ensures in
+    let applied = c .before .before .before .before .before .before .before .apply .ensures in
+    let r = raised-is (a .letter) (a .constraint) _ (a .lines .now) (a .increases .now) _ (w .none) (planned .0) _ (w .fit) (s .pre .1 .fit) _ (applied .0) in
+    (r .0, r .1, applied .1, c .before .tally .ensures, λ e. absurd (true≢false e))
 
 pub raise-spec : {M : Type 1} → statement M
 raise-spec =
     tie.close
     (tie.spec
     plan-batch-requires
-    apply-requires
     same-length
     same-length-2
     same-length-3
     same-length-4
-    returns)
+    same-length-5
+    returns
+    apply-requires
+    tally-requires
+    same-length-6
+    same-length-7
+    same-length-8
+    same-length-9
+    same-length-10
+    returns-2)

@@ -1,37 +1,39 @@
+-- `raise_all` raises letter by letter, in order. Assumes nothing.
 use borrow.Author.Needs.{needs}
 use Rattle.spans.proofs.batch.raise_all.Statement.{statement}
 use mathlib.Core.Path.{_≡_, refl, ap, sym, _∙_}
-use Prim.Native.Nat.{_-_, _≤_, zero-le}
+use mathlib.Core.Bool.{false}
+use Prim.Native.Nat.{_+_, _-_, _≤_, zero-le}
 use lib.ListN.{length, replicate, length-replicate}
 use Rattle.lines.specs.Rows.{linesOf}
 use Rattle.lines.specs.Chains.{chained}
-use Rattle.spans.specs.Work.{Working, letterSteps}
+use Rattle.spans.specs.Work.{Working, Calm, letterSteps}
+use Rattle.spans.proofs.Planned.{sums-long}
 use Rattle.spans.proofs.Raised.{steps-more, working-after, chain-fits-as}
 use Rattle.spans.proofs.batch.raise_all.Tie as tie
 
--- `raise_all` raises letter by letter, in order. Assumes nothing.
-
 abbrev Inv-loop : tie.InvT-loop
-Inv-loop constraint first nexts items lines₀ increases₀ gains₀ rests₀ k₀ lines increases gains rests k =
-    Working lines increases gains rests
+Inv-loop constraint first nexts items lines₀ increases₀ gains₀ rests₀ sums₀ moved₀ k₀ lines increases gains rests sums moved k =
+    Working lines increases gains rests sums
     × (length lines ≡ length lines₀)
     × (k ≤ 6)
     × (linesOf lines ≡ letterSteps k constraint (chained items nexts first) (linesOf lines₀))
+    × (moved ≡ false → Calm (linesOf lines))
 
 abbrev μ-loop : tie.MeasureT-loop
-μ-loop constraint first nexts items lines₀ increases₀ gains₀ rests₀ k₀ lines increases gains rests k = 6 - k
+μ-loop constraint first nexts items lines₀ increases₀ gains₀ rests₀ sums₀ moved₀ k₀ lines increases gains rests sums moved k = 6 - k
 
 loop-holds : tie.Need-loop-holds Inv-loop μ-loop
 unfolding letterSteps
 loop-holds c =
     let s = c .before .before .before .before in
-    (s .pre .0, refl, zero-le, refl)
+    (s .pre .0, refl, zero-le, refl, λ _. s .pre .2)
 
 raise-at-requires : tie.Need-raise-at-requires Inv-loop μ-loop
 raise-at-requires c κs =
-    let s = c .before .before .before .before .before .before .before .before .before .before in
-    let h = c .before .before .before .before .before .loop in
-    (h .inv .0, chain-fits-as (s .args .items .now) (s .args .nexts .now) (s .args .first) (h .inv .1) (s .pre .1))
+    let s = c .before .before .before .before .before .before .before .before .before .before .before in
+    let h = c .before .before .before .before .before .before .loop in
+    (h .inv .0, chain-fits-as (s .args .items .now) (s .args .nexts .now) (s .args .first) (h .inv .1) (s .pre .1), h .inv .4)
 
 add-k : tie.Need-add-k Inv-loop μ-loop
 add-k c = search needs
@@ -41,14 +43,15 @@ loop-less c = search needs
 
 loop-again : tie.Need-loop-again Inv-loop μ-loop
 loop-again c =
-    let s = c .before .before .before .before .before .before .before .before .before .before .before .before .before .before .before .before .before .before in
+    let s = c .before .before .before .before .before .before .before .before .before .before .before .before .before .before .before .before .before .before .before .before in
     let a = s .args in
-    let h = c .before .before .before .before .before .before .before .before .before .before .before .before .before .loop in
-    let e = c .before .before .before .before .before .before .before .raise-at .ensures in (
-      working-after (h .inv .0) (search needs) (search needs) (search needs) (e .1) (e .2),
+    let h = c .before .before .before .before .before .before .before .before .before .before .before .before .before .before .before .loop in
+    let e = c .before .before .before .before .before .before .before .before .raise-at .ensures in (
+      working-after (h .inv .0) (search needs) (search needs) (search needs) (e .1) (e .2) (e .3),
       search needs,
       search needs,
       steps-more (h .k) (a .constraint) (chained (a .items .now) (a .nexts .now) (a .first)) (linesOf (h .lines)) (linesOf (a .lines .now)) _ (h .inv .3) (e .0),
+      e .4,
     )
 
 same-length : tie.Need-same-length Inv-loop μ-loop
@@ -66,6 +69,12 @@ same-length-3 c = search needs
 same-length-4 : tie.Need-same-length-4 Inv-loop μ-loop
 same-length-4 c = search needs
 
+same-length-5 : tie.Need-same-length-5 Inv-loop μ-loop
+same-length-5 c =
+    let s = c .before .before .before .before .before .before in
+    let h = c .before .loop in
+    sums-long (h .lines) (h .sums) (h .inv .0 .totals) ∙ ap (_+ 1) (h .inv .1) ∙ sym (sums-long (s .args .lines .now) (s .args .sums .now) (s .pre .0 .totals))
+
 returns : tie.Need-returns Inv-loop μ-loop
 returns c =
     let s = c .before .before .before .before .before .before in
@@ -73,7 +82,7 @@ returns c =
     let h = c .before .loop in
     let six : h .k ≡ 6 = search needs in
     let w = h .inv .0 in
-    (h .inv .3 ∙ ap (λ n. letterSteps n (a .constraint) (chained (a .items .now) (a .nexts .now) (a .first)) (linesOf (a .lines .now))) six, w .fit, w .none ∙ ap (λ n. replicate n 0) (h .inv .1))
+    (h .inv .3 ∙ ap (λ n. letterSteps n (a .constraint) (chained (a .items .now) (a .nexts .now) (a .first)) (linesOf (a .lines .now))) six, w .fit, w .none ∙ ap (λ n. replicate n 0) (h .inv .1), w .totals)
 
 pub raise-all-spec : {M : Type 1} → statement M
 raise-all-spec =
@@ -90,4 +99,5 @@ raise-all-spec =
     same-length-2
     same-length-3
     same-length-4
+    same-length-5
     returns)

@@ -15,7 +15,7 @@ returns c =
     let s = c .before .before .before .before .before .before in
     let a = s .args in
     let w = s .pre .0 in
-    (step-left (a .k) (a .constraint) (chained (a .items .now) (a .nexts .now) (a .first)) (linesOf (a .lines .now)) (c .before .has-place .ensures) (not-true _ (c .if1 .taken)), w .fit, w .none)
+    (step-left (a .k) (a .constraint) (chained (a .items .now) (a .nexts .now) (a .first)) (linesOf (a .lines .now)) (c .before .has-place .ensures) (not-true _ (c .if1 .taken)), w .fit, w .none, w .totals, s .pre .2)
 
 letter-at-requires : tie.Need-letter-at-requires
 letter-at-requires c κs = search needs
@@ -35,12 +35,15 @@ same-length-3 c = search needs
 same-length-4 : tie.Need-same-length-4
 same-length-4 c = search needs
 
+same-length-5 : tie.Need-same-length-5
+same-length-5 c = search needs
+
 returns-2 : tie.Need-returns-2
 returns-2 c =
-    let s = c .before .before .before .before .before .before .before .before .before .before .before .before .before .before .before .before .before .before .before in
+    let s = c .before .before .before .before .before .before .before .before .before .before .before .before .before .before .before .before .before .before .before .before .before in
     let a = s .args in
-    let e = c .before .before .before .before .before .before .before .raise .ensures in
-    (step-taken (a .k) (a .constraint) (chained (a .items .now) (a .nexts .now) (a .first)) (linesOf (a .lines .now)) _ (c .before .before .before .before .before .before .before .before .before .before .before .before .before .before .has-place .ensures) (not-false _ (c .before .before .before .before .before .before .before .before .before .before .before .before .before .if1 .left)) (c .before .before .before .before .before .before .before .before .before .before .before .before .letter-at .ensures) (e .0), e .1, e .2)
+    let e = c .before .before .before .before .before .before .before .before .raise .ensures in
+    (step-taken (a .k) (a .constraint) (chained (a .items .now) (a .nexts .now) (a .first)) (linesOf (a .lines .now)) _ (c .before .before .before .before .before .before .before .before .before .before .before .before .before .before .before .before .has-place .ensures) (not-false _ (c .before .before .before .before .before .before .before .before .before .before .before .before .before .before .before .if1 .left)) (c .before .before .before .before .before .before .before .before .before .before .before .before .before .before .letter-at .ensures) (e .0), e .1, e .2, e .3, e .4)
 
 pub raise-at-spec : {M : Type 1} → statement M
 raise-at-spec =
@@ -54,4 +57,5 @@ raise-at-spec =
     same-length-2
     same-length-3
     same-length-4
+    same-length-5
     returns-2)

@@ -78,7 +78,7 @@ returns-2 : tie.Need-returns-2
 returns-2 c =
     let start = c .before .before .before .before .before .before .before .before in
     next-of-whole (start .args .bytes .now) (start .args .at + recordSize (partsOf (start .args .self))) (c .before .before .before .before .before .reaches .ensures ∙ ap (λ (n : ℕ). leb (start .args .at + n) (length (start .args .bytes .now))) (c .before .before .before .before .before .before .size .ensures)) (c .before .before .before .before .if1 .left) _ (rowFault (partsOf (start .args .self)) (rowAt (partsOf (start .args .self)) (start .args .bytes .now) (start .args .at)) (start .args .at))
-    (c .space-fault .ensures ∙ ap (λ (row : Row). rowFault spaceRecord row (start .args .at)) (c .before .space-at .ensures) ∙ ap (λ (s : Section). rowFault (partsOf s) (rowAt (partsOf s) (start .args .bytes .now) (start .args .at)) (start .args .at)) (sym (c .before .before .enum-told .given .1)))
+    (c .space-fault .ensures .0 ∙ ap (λ (row : Row). rowFault spaceRecord row (start .args .at)) (c .before .space-at .ensures) ∙ ap (λ (s : Section). rowFault (partsOf s) (rowAt (partsOf s) (start .args .bytes .now) (start .args .at)) (start .args .at)) (sym (c .before .before .enum-told .given .1)))
 
 returns-3 : tie.Need-returns-3
 returns-3 c =

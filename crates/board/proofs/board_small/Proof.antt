@@ -1,0 +1,37 @@
+-- `board_small` lends a store of 128 tracks and 64 items, which the records in 1,232 bytes never fill. Assumes nothing.
+use borrow.Author.Needs.{needs}
+use mathlib.Core.List.{List}
+use Prim.Native.Nat.{ℕ}
+use lib.ListN.{replicate, length-replicate}
+use Rattle.board.proofs.ReadBoard.{small-rows}
+use Rattle.board.proofs.board_small.Statement.{statement}
+use Rattle.board.proofs.board_small.Tie as tie
+
+slice-aggregate-board-with : tie.Need-slice-aggregate-board-with
+slice-aggregate-board-with c = search needs
+
+slice-aggregate-board-with-2 : tie.Need-slice-aggregate-board-with-2
+slice-aggregate-board-with-2 c = search needs
+
+board-with-requires : tie.Need-board-with-requires
+board-with-requires c κs =
+    let s = c .before .before .before .before in
+    let long = length-replicate {A = List ℕ} 128 (replicate 4 0) in
+    let longItems = length-replicate {A = List ℕ} 64 (replicate 7 0) in
+    small-rows (s .args .bytes .now) (replicate 128 (replicate 4 0)) (replicate 64 (replicate 7 0)) (s .pre) long longItems
+
+same-length : tie.Need-same-length
+same-length c = search needs
+
+returns : tie.Need-returns
+returns c = search needs
+
+pub board-small-spec : {M : Type 1} → statement M
+board-small-spec =
+    tie.close
+    (tie.spec
+    slice-aggregate-board-with
+    slice-aggregate-board-with-2
+    board-with-requires
+    same-length
+    returns)

@@ -1,0 +1,82 @@
+-- A board has a place for each track: no step adds a line or takes one away. Assumes nothing.
+use mathlib.Core.Path.{_≡_, refl, _∙_}
+use mathlib.Core.Bool.{Bool, true, false}
+use mathlib.Core.List.{List, [], _∷_, map}
+use Prim.Native.Nat.{ℕ, _-_}
+use lib.ListN.{length, length-map}
+use Rattle.laws.specs.Lists.{upFrom, keep, inTurn, length-zip}
+use Rattle.laws.specs.Alls.{image-all}
+use Rattle.fill.specs.Rule.{gainsOf, fill}
+use Rattle.fill.specs.Rule as fill
+use Rattle.fill.proofs.Fresh.{length-gains}
+use Rattle.kinds.specs.declared.item.Item.{Item}
+use Rattle.kinds.specs.declared.space.Constraint.{Constraint}
+use Rattle.kinds.specs.declared.space.Constraint.the-variants.{Definite, MinContent, MaxContent}
+use Rattle.kinds.specs.declared.space.Space.{Space}
+use Rattle.kinds.specs.declared.track.Track.{Track}
+use Rattle.lines.specs.declared.line.Line.{Line}
+use Rattle.lines.specs.declared.limit.Limit.the-variants.{UpTo}
+use Rattle.lines.specs.declared.measured.Measured.{Measured}
+use Rattle.lines.specs.Rule.{Letter, withBase, withLimit, limitSize, bases, measuredItems, onFr, settled, startLine, start, inOneTrack, singles, grownBase, letters, raise, batched, inSpan, longer, lastBatch, missing, content, filledLines, maximiseTrack, maximise, stretchTrack, stretched, expansion, frFor, finish, placeOf, size}
+use Rattle.lines.proofs.Fits.{length-take-singles}
+use Rattle.letters.proofs.Keeps.{length-raise}
+use Rattle.flexible.proofs.Expanded.{length-expand}
+
+-- ---- steps 1 to 4
+
+in-turn-long : {A : Type 0} (f : A → List Line → List Line) → ((a : A) (ls : List Line) → length (f a ls) ≡ length ls)
+    → (xs : List A) (ls : List Line) → length (inTurn f xs ls) ≡ length ls
+unfolding inTurn
+in-turn-long f k [] ls = refl
+in-turn-long f k (a ∷ xs) ls = in-turn-long f k xs (f a ls) ∙ k a ls
+
+length-batched : (c : Constraint) (batch : List Measured) (ls : List Line) → length (batched c batch ls) ≡ length ls
+unfolding batched
+length-batched c [] ls = refl
+length-batched c (i ∷ is) ls = in-turn-long (raise c (i ∷ is)) (λ (letter : Letter) (on : List Line). length-raise letter c (i ∷ is) on) (letters c) ls
+
+length-content : (c : Constraint) (ts : List Track) (is : List Measured) → length (content c ts is) ≡ length ts
+unfolding content missing lastBatch longer singles start
+length-content c ts is =
+    length-map (lastBatch c ts is (longer c ts is (singles c (keep (inOneTrack ts) is) (start ts)))) (λ (l : Line). withLimit l (UpTo (limitSize l)))
+    ∙ length-batched c (keep (onFr ts) is) (longer c ts is (singles c (keep (inOneTrack ts) is) (start ts)))
+    ∙ in-turn-long (λ (n : ℕ). batched c (keep (inSpan ts n) is)) (λ (n : ℕ). length-batched c (keep (inSpan ts n) is)) (upFrom 2 (length ts - 1)) (singles c (keep (inOneTrack ts) is) (start ts))
+    ∙ length-map (inTurn _ (keep (inOneTrack ts) is) (start ts)) settled
+    ∙ length-take-singles c 0 (keep (inOneTrack ts) is) (start ts)
+    ∙ length-map ts startLine
+
+-- ---- steps 5 to 7
+
+length-filled : (dots : ℕ) (track : Line → fill.Track) → ((l : Line) → track l .gain ≡ 0) → (ls : List Line) → length (filledLines ls (fill dots (map track ls))) ≡ length ls
+length-filled dots track none ls =
+    length-zip grownBase ls (gainsOf (fill dots (map track ls) .tracks))
+    (length-gains dots (map track ls) (image-all (λ (t : fill.Track). t .gain ≡ 0) track none ls) ∙ length-map ls track)
+
+length-maximise : (c : Constraint) (ls : List Line) → length (maximise c ls .lines) ≡ length ls
+unfolding maximise
+length-maximise (Definite n) ls = length-filled (n - bases ls) maximiseTrack (λ l. refl) ls
+length-maximise MinContent ls = length-filled 0 maximiseTrack (λ l. refl) ls
+length-maximise MaxContent ls = length-map ls (λ (l : Line). withBase l (limitSize l))
+
+length-stretched : (asked : Bool) (e : Constraint) (ls : List Line) → length (stretched asked e ls) ≡ length ls
+unfolding stretched
+length-stretched false e ls = refl
+length-stretched true (Definite n) ls = length-filled (n - bases ls) stretchTrack (λ l. refl) ls
+length-stretched true MinContent ls = refl
+length-stretched true MaxContent ls = refl
+
+length-finish : (s : Space) (ts : List Track) (is : List Measured) (ls : List Line) → length (finish s ts is ls) ≡ length ls
+unfolding finish
+length-finish s ts is ls = length-stretched (s .stretch) (expansion s) _ ∙ length-expand (frFor (expansion s) ts is ls) ls
+
+-- ---- the board
+
+pub length-size : (s : Space) (ts : List Track) (is : List Item) → length (size s ts is .places) ≡ length ts
+unfolding size
+length-size s ts is =
+    let ms = measuredItems ts is in
+    let ls = content (s .constraint) ts ms in
+    length-map (finish s ts ms (maximise (s .constraint) ls .lines)) placeOf
+    ∙ length-finish s ts ms (maximise (s .constraint) ls .lines)
+    ∙ length-maximise (s .constraint) ls
+    ∙ length-content (s .constraint) ts ms

@@ -1,0 +1,131 @@
+-- Lines at rest: a letter that gives nothing leaves them, a batch ends with them, and so does step 2. Assumes nothing.
+use mathlib.Core.Path.{_≡_, refl, sym, ap, _∙_}
+use mathlib.Core.Bool.{Bool, true, false, cond, _&&_}
+use mathlib.Core.List.{List, [], _∷_, map, zipWith}
+use Prim.Native.Nat.{ℕ, zero, suc, _+_, _≤_, max}
+use native.Mathlib.Nat.{add-zero}
+use native.Mathlib.Omega.{arith}
+use lib.Dec.{ltb}
+use lib.ListN.{length, replicate}
+use Rattle.laws.specs.Lists.{All, inTurn, changeAt}
+use Rattle.kinds.specs.declared.space.Constraint.{Constraint}
+use Rattle.kinds.specs.declared.space.Constraint.the-variants.{Definite, MinContent, MaxContent}
+use Rattle.kinds.specs.declared.track.Track.{Track}
+use Rattle.lines.specs.declared.limit.Limit.{Limit}
+use Rattle.lines.specs.declared.limit.Limit.the-variants.{None, UpTo}
+use Rattle.lines.specs.declared.line.Line.{Line}
+use Rattle.lines.specs.declared.measured.Measured.{Measured}
+use Rattle.lines.specs.Rule.{line, atLeast, limitPlus, isNone, settled, grownBase, grownLimit, increases, raise, start, withItem, withItemAt, singles}
+use Rattle.letters.specs.declared.letter.Letter.{Letter}
+use Rattle.letters.specs.declared.letter.Letter.the-variants.{A, B, C, D, E, F}
+use Rattle.letters.specs.Letters.{letterOf}
+use Rattle.spans.specs.Work.{above, AtRest, Calm, letterAt, hasPlace, letterStep, letterSteps}
+
+-- ---- an increase of nothing
+
+at-least-above : (base : ℕ) (limit : Limit) → above base limit → atLeast base limit ≡ limit
+at-least-above base None a = refl
+at-least-above base (UpTo n) a = ap UpTo (omega arith)
+
+plus-nothing : (base : ℕ) (limit : Limit) → limitPlus base 0 limit ≡ limit
+plus-nothing base None = refl
+plus-nothing base (UpTo n) = ap UpTo (add-zero n)
+
+unmarked : (marks : Bool) (limit : Limit) → (marks && (isNone limit && ltb 0 0)) ≡ false
+unmarked true None = refl
+unmarked true (UpTo n) = refl
+unmarked false limit = refl
+
+module _ (l : Line) (r : AtRest l) where
+  base-stays : grownBase l 0 ≡ l
+  base-stays = ap (λ (b : ℕ). line (l .track) b (l .limit) (l .grows)) (add-zero (l .base))
+
+  settled-stays : settled l ≡ l
+  settled-stays = ap (λ (m : Limit). line (l .track) (l .base) m (l .grows)) (at-least-above (l .base) (l .limit) (r .0))
+
+  limit-stays : (marks : Bool) → grownLimit marks l 0 ≡ l
+  limit-stays marks =
+      ap (λ (m : Limit). line (l .track) (l .base) m (marks && (isNone (l .limit) && ltb 0 0))) (plus-nothing (l .base) (l .limit))
+      ∙ ap (line (l .track) (l .base) (l .limit)) (unmarked marks (l .limit) ∙ sym (r .1))
+
+  grown-stays : (letter : Letter) → letterOf letter .grown l 0 ≡ l
+  grown-stays A = base-stays
+  grown-stays B = base-stays
+  grown-stays C = base-stays
+  grown-stays D = ap settled base-stays ∙ settled-stays
+  grown-stays E = limit-stays true
+  grown-stays F = limit-stays false
+
+pub calm-stays : (letter : Letter) (ls : List Line) → Calm ls → zipWith (letterOf letter .grown) ls (replicate (length ls) 0) ≡ ls
+unfolding zipWith All
+calm-stays letter [] r = refl
+calm-stays letter (l ∷ ls) r = rw (grown-stays l (r .0) letter) (ap (l ∷_) (calm-stays letter ls (r .1)))
+
+-- ---- a batch
+
+above-settled : (base : ℕ) (limit : Limit) → above base (atLeast base limit)
+above-settled base None = tt
+above-settled base (UpTo n) = omega arith
+
+above-more : (base increase : ℕ) (b : Bool) → above base (cond b (UpTo (base + increase)) None)
+above-more base increase true = omega arith
+above-more base increase false = tt
+
+above-plus : (base increase : ℕ) (limit : Limit) → above base limit → above base (limitPlus base increase limit)
+above-plus base increase None a = above-more base increase (ltb 0 increase)
+above-plus base increase (UpTo n) a = omega arith
+
+abbrev Settled : List Line → Type 0
+Settled = All (λ (l : Line). above (l .base) (l .limit))
+
+settled-by-d : (ls : List Line) (ps : List ℕ) → Settled (zipWith (letterOf D .grown) ls ps)
+unfolding zipWith All
+settled-by-d [] ps = tt
+settled-by-d (l ∷ ls) [] = tt
+settled-by-d (l ∷ ls) (p ∷ ps) = (above-settled (l .base + p) (l .limit), settled-by-d ls ps)
+
+settled-through-e : (ls : List Line) (ps : List ℕ) → Settled ls → Settled (zipWith (letterOf E .grown) ls ps)
+unfolding zipWith All
+settled-through-e [] ps s = tt
+settled-through-e (l ∷ ls) [] s = tt
+settled-through-e (l ∷ ls) (p ∷ ps) s = (above-plus (l .base) p (l .limit) (s .0), settled-through-e ls ps (s .1))
+
+calm-by-f : (ls : List Line) (ps : List ℕ) → Settled ls → Calm (zipWith (letterOf F .grown) ls ps)
+unfolding zipWith All
+calm-by-f [] ps s = tt
+calm-by-f (l ∷ ls) [] s = tt
+calm-by-f (l ∷ ls) (p ∷ ps) s = ((above-plus (l .base) p (l .limit) (s .0), refl), calm-by-f ls ps (s .1))
+
+pub batch-calm : (c : Constraint) (batch : List Measured) (ls : List Line) → Calm (letterSteps 6 c batch ls)
+unfolding letterSteps letterStep raise
+batch-calm c batch ls = calm-by-f _ _ (settled-through-e _ _ (settled-by-d (letterSteps 3 c batch ls) _))
+
+-- ---- step 2
+
+abbrev Unmarked : List Line → Type 0
+Unmarked = All (λ (l : Line). l .grows ≡ false)
+
+start-unmarked : (ts : List Track) → Unmarked (start ts)
+unfolding All start
+start-unmarked [] = tt
+start-unmarked (t ∷ ts) = (refl, start-unmarked ts)
+
+change-unmarked : (c : Constraint) (i : Measured) (k : ℕ) (ls : List Line) → Unmarked ls → Unmarked (changeAt k (withItem c i) ls)
+unfolding All changeAt
+change-unmarked c i k [] u = tt
+change-unmarked c i zero (l ∷ ls) u = u
+change-unmarked c i (suc k) (l ∷ ls) u = (u .0, change-unmarked c i k ls (u .1))
+
+items-unmarked : (c : Constraint) (is : List Measured) (ls : List Line) → Unmarked ls → Unmarked (inTurn (withItemAt c) is ls)
+unfolding inTurn
+items-unmarked c [] ls u = u
+items-unmarked c (i ∷ is) ls u = items-unmarked c is (withItemAt c i ls) (change-unmarked c i (i .start) ls u)
+
+settled-calm : (ls : List Line) → Unmarked ls → Calm (map settled ls)
+unfolding All
+settled-calm [] u = tt
+settled-calm (l ∷ ls) u = ((above-settled (l .base) (l .limit), u .0), settled-calm ls (u .1))
+
+pub singles-calm : (c : Constraint) (is : List Measured) (ts : List Track) → Calm (singles c is (start ts))
+unfolding singles
+singles-calm c is ts = settled-calm _ (items-unmarked c is (start ts) (start-unmarked ts))

@@ -2,7 +2,7 @@
 //! headers of oracle/fill_cases.py, sheet_cases.py and board_cases.py tell the form of a case.
 use dots::board::{board, Place};
 use dots::fill::fill;
-use dots::kinds::{Constraint, Refusal, Space};
+use dots::kinds::Refusal;
 use dots::sheet::{self, ItemRow, TrackRow};
 use std::process::exit;
 use std::str::{Lines, SplitWhitespace};
@@ -69,9 +69,7 @@ fn read_agrees(case: &mut Case) -> bool {
     let answer = case.answer();
     let same_answer = match (told, answer) {
         (Ok((space, tracks, items)), Ok(counts)) => {
-            let [a, b] = sheet::constraint_row(space.constraint);
-            let [c, d] = sheet::amount_row(space.inner);
-            [tracks, items] == counts && case.row() == [a, b, c, d, u32::from(space.stretch)]
+            [tracks, items] == counts && case.row() == sheet::space_row(&space)
         }
         (Err(told), Err(answer)) => told == answer,
         _ => false,
@@ -80,16 +78,7 @@ fn read_agrees(case: &mut Case) -> bool {
 }
 
 fn write_agrees(case: &mut Case) -> bool {
-    let [tag, number, inner_tag, inner, stretch] = case.row();
-    let space = Space {
-        constraint: match tag {
-            1 => Constraint::Definite(number),
-            2 => Constraint::MinContent,
-            _ => Constraint::MaxContent,
-        },
-        inner: (inner_tag == 1).then_some(inner),
-        stretch: stretch == 1,
-    };
+    let space = case.row();
     let tracks: Vec<TrackRow> = case.rows();
     let items: Vec<ItemRow> = case.rows();
     let mut lent = case.bytes();

@@ -4,6 +4,9 @@
 //! number without use: so reader and writer find their faults in one place.
 use crate::kinds::{Constraint, Item, Maximum, Minimum, Refusal, Sheet, Space, Track};
 
+/// Constraint tag and number, inner size tag and number, stretch.
+pub type SpaceRow = [u32; 5];
+
 /// Minimum tag and number, maximum tag and number.
 pub type TrackRow = [u32; 4];
 
@@ -17,8 +20,9 @@ const ITEM_BYTES: usize = 19;
 /// A tag and its u32.
 const TAGGED_BYTES: usize = 5;
 
-/// Where the first track's record stands, and where the first item's does behind so many tracks.
-const TRACKS_AT: usize = COUNT_BYTES + SPACE_BYTES + COUNT_BYTES;
+/// Where the record of the space stands, that of the first track, and behind so many tracks that of the first item.
+const SPACE_AT: usize = COUNT_BYTES;
+const TRACKS_AT: usize = SPACE_AT + SPACE_BYTES + COUNT_BYTES;
 
 fn items_at(tracks: usize) -> usize {
     TRACKS_AT + TRACK_BYTES * tracks + COUNT_BYTES
@@ -30,11 +34,7 @@ pub fn read(bytes: &[u8]) -> Result<Sheet, Refusal> {
 
     front.count(1, 1)?;
     let (record, at) = front.record::<SPACE_BYTES>()?;
-    let space = Space {
-        constraint: constraint(tagged(record, 0), at)?,
-        inner: amount(tagged(record, 5), at + 5)?,
-        stretch: stretch(record[10], at + 10)?,
-    };
+    let space = space(row_of_space(record), at)?;
 
     let count = front.count(0, Track::MOST)?;
     let mut tracks = Vec::with_capacity(count);
@@ -81,12 +81,13 @@ pub fn read_rows(
 
 /// Writes a sheet's bytes and gives their number: 3 to 5 where the bytes would show them, then 6.
 pub fn write(
-    space: &Space,
+    space_row: &SpaceRow,
     tracks: &[TrackRow],
     items: &[ItemRow],
     lent: &mut [u8],
 ) -> Result<usize, Refusal> {
     let items_at = items_at(tracks.len());
+    space(*space_row, SPACE_AT)?;
     if tracks.len() > Track::MOST {
         return Err(Refusal::at(3, TRACKS_AT - COUNT_BYTES));
     }
@@ -106,9 +107,8 @@ pub fn write(
 
     let mut pen = Pen { lent, at: 0 };
     pen.count(1);
-    pen.tagged(&constraint_row(space.constraint));
-    pen.tagged(&amount_row(space.inner));
-    pen.put([u8::from(space.stretch)]);
+    pen.tagged(&space_row[..4]);
+    pen.put([space_row[4] as u8]);
     pen.count(tracks.len());
     for row in tracks {
         pen.tagged(row);
@@ -119,6 +119,16 @@ pub fn write(
         pen.tagged(&row[1..]);
     }
     Ok(length)
+}
+
+/// A sheet of kinds written whole: nothing in it can be at fault but too many records.
+pub fn bytes_of(sheet: &Sheet) -> Vec<u8> {
+    let tracks: Vec<TrackRow> = sheet.tracks.iter().map(track_row).collect();
+    let items: Vec<ItemRow> = sheet.items.iter().map(item_row).collect();
+    let mut bytes = vec![0; items_at(tracks.len()) + ITEM_BYTES * items.len()];
+    write(&space_row(&sheet.space), &tracks, &items, &mut bytes)
+        .expect("no more records than 3 allows");
+    bytes
 }
 
 /// Where a sheet ends, by its three counts alone: refusals 1 and 3 of these.
@@ -194,6 +204,13 @@ fn tagged(record: &[u8], at: usize) -> [u32; 2] {
     [u32::from(record[at]), four_at(record, at + 1)]
 }
 
+fn row_of_space(record: &[u8; SPACE_BYTES]) -> SpaceRow {
+    let [constraint_tag, constraint] = tagged(record, 0);
+    let [inner_tag, inner] = tagged(record, 5);
+    let stretch = u32::from(record[10]);
+    [constraint_tag, constraint, inner_tag, inner, stretch]
+}
+
 fn row_of_track(record: &[u8; TRACK_BYTES]) -> TrackRow {
     let [minimum_tag, minimum] = tagged(record, 0);
     let [maximum_tag, maximum] = tagged(record, 5);
@@ -234,8 +251,8 @@ fn amount([tag, number]: [u32; 2], at: usize) -> Result<Option<u32>, Refusal> {
     }
 }
 
-fn stretch(byte: u8, at: usize) -> Result<bool, Refusal> {
-    match byte {
+fn stretch(number: u32, at: usize) -> Result<bool, Refusal> {
+    match number {
         0 => Ok(false),
         1 => Ok(true),
         _ => Err(Refusal::at(4, at)),
@@ -264,6 +281,14 @@ fn maximum([tag, number]: [u32; 2], at: usize) -> Result<Maximum, Refusal> {
     }
 }
 
+fn space(row: SpaceRow, at: usize) -> Result<Space, Refusal> {
+    Ok(Space {
+        constraint: constraint([row[0], row[1]], at)?,
+        inner: amount([row[2], row[3]], at + TAGGED_BYTES)?,
+        stretch: stretch(row[4], at + 2 * TAGGED_BYTES)?,
+    })
+}
+
 fn track(row: TrackRow, at: usize) -> Result<Track, Refusal> {
     Ok(Track {
         minimum: minimum([row[0], row[1]], at)?,
@@ -286,15 +311,18 @@ fn item(row: ItemRow, at: usize) -> Result<Item, Refusal> {
 
 // From kinds to rows.
 
-pub fn constraint_row(constraint: Constraint) -> [u32; 2] {
-    match constraint {
+pub fn space_row(space: &Space) -> SpaceRow {
+    let [constraint_tag, constraint] = match space.constraint {
         Constraint::Definite(dots) => [1, dots],
         Constraint::MinContent => [2, 0],
         Constraint::MaxContent => [3, 0],
-    }
+    };
+    let [inner_tag, inner] = amount_row(space.inner);
+    let stretch = u32::from(space.stretch);
+    [constraint_tag, constraint, inner_tag, inner, stretch]
 }
 
-pub fn amount_row(amount: Option<u32>) -> [u32; 2] {
+fn amount_row(amount: Option<u32>) -> [u32; 2] {
     match amount {
         None => [0, 0],
         Some(dots) => [1, dots],

@@ -105,12 +105,15 @@ def main():
         sys.exit(f'build.py: {fault}')
     with open(cut_file, 'w', encoding='utf-8') as opened:
         opened.write(text)
-    done = subprocess.run([
-        'rustc', '--edition', '2021', '-O', '-C', 'overflow-checks=on', '-L', f'native={library}',
-        '-o', program, os.path.join(HERE, 'main.rs'),
-    ], env={**os.environ, 'CUT_RUST': cut_file})
-    if done.returncode != 0:
-        sys.exit(done.returncode)
+    rustc = ['rustc', '--edition', '2021', '-O', '-C', 'overflow-checks=on', '-L', f'native={library}']
+    face = os.path.join(ROOT, 'examples', 'rust', 'torrivask.rs')
+    for words in [
+        ['--crate-type', 'rlib', '--out-dir', OUT, face],
+        ['--extern', f'torrivask={OUT}/libtorrivask.rlib', '-o', program, os.path.join(HERE, 'main.rs')],
+    ]:
+        done = subprocess.run(rustc + words, env={**os.environ, 'CUT_RUST': cut_file})
+        if done.returncode != 0:
+            sys.exit(done.returncode)
     print(f'{sum(len(names) for *_, names in CUTS)} items cut, each found once; built {os.path.relpath(program, ROOT)}')
 
 

@@ -1,7 +1,11 @@
 //! The seven calls: what each is given, what is seen of it afterwards, and the calls of the proved library through C.
-
-/// A track's numbers: base size, growth limit, planned increase of the base, of the limit, incurred increase.
-pub type Row = [f32; 5];
+use torrivask::c::{
+    torrivask_compute_alignment_gutter_adjustment, torrivask_distribute_space_up_to_limits,
+    torrivask_find_size_of_fr, torrivask_flush_planned_base_size_increases,
+    torrivask_flush_planned_growth_limit_increases, torrivask_maximise_tracks,
+    torrivask_stretch_auto_tracks,
+};
+pub use torrivask::FloatTrack as Row;
 
 pub const DEFINITE: u32 = 1;
 pub const MIN_CONTENT: u32 = 2;
@@ -157,75 +161,6 @@ impl Outcome {
             && self.mark == other.mark
             && self.beside_kept == other.beside_kept
     }
-}
-
-// A slice is passed as a pointer and a length.
-#[link(name = "torrivask", kind = "static")]
-extern "C" {
-    fn torrivask_flush_planned_base_size_increases(track: *mut Row, place: *mut u64) -> u32;
-    fn torrivask_flush_planned_growth_limit_increases(
-        track: *mut Row,
-        growable: *mut bool,
-        mark: bool,
-        place: *mut u64,
-    ) -> u32;
-    fn torrivask_compute_alignment_gutter_adjustment(
-        alignment: u32,
-        given: bool,
-        inner: f32,
-        known: *const bool,
-        known_length: usize,
-        estimates: *const f32,
-        estimates_length: usize,
-        gutter: *mut f32,
-        place: *mut u64,
-    ) -> u32;
-    fn torrivask_distribute_space_up_to_limits(
-        space: f32,
-        tracks: *mut Row,
-        tracks_length: usize,
-        affected: *const bool,
-        affected_length: usize,
-        proportions: *const f32,
-        proportions_length: usize,
-        sizes: *const f32,
-        sizes_length: usize,
-        limits: *const f32,
-        limits_length: usize,
-        left: *mut f32,
-        place: *mut u64,
-    ) -> u32;
-    fn torrivask_find_size_of_fr(
-        tracks: *const Row,
-        tracks_length: usize,
-        flexible: *const bool,
-        flexible_length: usize,
-        factors: *const f32,
-        factors_length: usize,
-        space: f32,
-        size: *mut f32,
-        place: *mut u64,
-    ) -> u32;
-    fn torrivask_maximise_tracks(
-        tracks: *mut Row,
-        tracks_length: usize,
-        fits: *const f32,
-        fits_length: usize,
-        kind: u32,
-        space: f32,
-        place: *mut u64,
-    ) -> u32;
-    fn torrivask_stretch_auto_tracks(
-        tracks: *mut Row,
-        tracks_length: usize,
-        autos: *const bool,
-        autos_length: usize,
-        given: bool,
-        minimum: f32,
-        kind: u32,
-        space: f32,
-        place: *mut u64,
-    ) -> u32;
 }
 
 /// What the proved library makes of an input.

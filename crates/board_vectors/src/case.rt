@@ -2,7 +2,7 @@
 // what the case wants. Where the text has a fault the call is made on what was read, and the caller looks at the fault alone.
 ghost use Prim.Native.Nat.{_≤_};
 ghost use lib.ListN.{length};
-ghost use Rattle.cases.specs.Reading.{Onward};
+ghost use Rattle.texts.specs.Reading.{Onward};
 use crate::compare::Told;
 use crate::compare::is_given;
 use crate::places::read_places;

@@ -1,10 +1,10 @@
 // The file of cases that the program's first argument names, read whole into memory that the program lends.
 ghost use mathlib.Core.Path.{_≡_};
 ghost use lib.ListN.{length};
-ghost use Rattle.cases.specs.Reading.{Counted};
-use crate::cursor::Fault;
+ghost use Rattle.texts.specs.Reading.{Counted};
 use crate::report::print_fault;
 use libc::STDERR_FILENO;
+use texts::Fault;
 
 // More than any file of cases has, so that each can grow.
 pub const MOST_BYTES: usize = 1048576;

@@ -3,10 +3,10 @@ ghost use mathlib.Core.Path.{_≡_};
 ghost use mathlib.Core.Bool.{true, false};
 ghost use Prim.Native.Nat.{_≤_, _<_, _+_};
 ghost use lib.ListN.{length};
-use crate::cursor::Fault;
-use crate::spans::Run;
 use libc::STDERR_FILENO;
 use libc::STDOUT_FILENO;
+use texts::Fault;
+use texts::Run;
 
 // How many cases there were and how many differ; of the first that differs its number, from 1,
 // and where its name stands.

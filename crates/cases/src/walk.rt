@@ -1,16 +1,16 @@
 // The walk over the cases of the text, with the counts of those that agree and differ.
 ghost use Prim.Native.Nat.{_+_, _≤_, _<_};
 ghost use lib.ListN.{length};
-ghost use Rattle.cases.specs.Reading.{Onward};
+ghost use Rattle.texts.specs.Reading.{Onward};
 ghost use Rattle.cases.specs.Walking.{Walking};
-use crate::cursor::Cursor;
-use crate::cursor::Fault;
-use crate::cursor::going;
-use crate::cursor::stopped;
 use crate::report::Tally;
 use crate::report::print_fault;
 use crate::report::print_tally;
-use crate::spans::Run;
+use texts::Cursor;
+use texts::Fault;
+use texts::Run;
+use texts::going;
+use texts::stopped;
 
 // Whether a case agrees, and where reading it ended.
 pub struct Checked {

@@ -1,10 +1,10 @@
 // What a case wants told: a refusal's number and place, or two numbers of an answer that is no refusal.
 ghost use Prim.Native.Nat.{_≤_};
 ghost use lib.ListN.{length};
-ghost use Rattle.cases.specs.Reading.{Onward};
-use crate::cursor::Cursor;
-use crate::numbers::read_mark;
-use crate::numbers::read_number;
+ghost use Rattle.texts.specs.Reading.{Onward};
+use texts::Cursor;
+use texts::read_mark;
+use texts::read_number;
 
 pub struct Wanted {
     pub is_refusal: bool,

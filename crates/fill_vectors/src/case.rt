@@ -2,7 +2,7 @@
 // what it gives is compared with what the case wants.
 ghost use Prim.Native.Nat.{_≤_};
 ghost use lib.ListN.{length};
-ghost use Rattle.cases.specs.Reading.{Onward, Counted};
+ghost use Rattle.texts.specs.Reading.{Onward, Counted};
 use crate::compare::is_given;
 use cases::Checked;
 use cases::Cursor;

@@ -3,7 +3,7 @@
 // a fault the call is made on what was read, and the caller looks at the fault alone.
 ghost use Prim.Native.Nat.{_≤_};
 ghost use lib.ListN.{length};
-ghost use Rattle.cases.specs.Reading.{Onward, Counted};
+ghost use Rattle.texts.specs.Reading.{Onward, Counted};
 use crate::answers::Told;
 use crate::calls::is_adjusted;
 use crate::calls::is_base_flushed;

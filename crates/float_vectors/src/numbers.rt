@@ -4,7 +4,7 @@ ghost use mathlib.Core.Bool.{true};
 ghost use Prim.Native.Nat.{_≤_};
 ghost use lib.ListN.{length};
 ghost use lib.Ieee.{ofBits, binary32};
-ghost use Rattle.cases.specs.Reading.{Onward, Counted};
+ghost use Rattle.texts.specs.Reading.{Onward, Counted};
 ghost use Rattle.float_vectors.specs.Wanted.{bitsOf};
 use cases::Cursor;
 use cases::List;

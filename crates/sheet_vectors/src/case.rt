@@ -2,7 +2,7 @@
 // wants. Where the text has a fault the call is made on what was read, and the caller looks at the fault alone.
 ghost use Prim.Native.Nat.{_≤_};
 ghost use lib.ListN.{length};
-ghost use Rattle.cases.specs.Reading.{Onward, Counted};
+ghost use Rattle.texts.specs.Reading.{Onward, Counted};
 use crate::compare;
 use crate::rows::read_rows;
 use crate::space::read_space;

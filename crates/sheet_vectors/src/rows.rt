@@ -1,7 +1,7 @@
 // Rows in the text: a list of them is its length, then the rows; a row may be repeated, as in 3x2 0 1 0.
 ghost use Prim.Native.Nat.{_≤_};
 ghost use lib.ListN.{length};
-ghost use Rattle.cases.specs.Reading.{Onward, Counted};
+ghost use Rattle.texts.specs.Reading.{Onward, Counted};
 use cases::Cursor;
 use cases::List;
 use cases::ended;

@@ -3,7 +3,7 @@ ghost use mathlib.Core.Path.{_≡_};
 ghost use mathlib.Core.Bool.{true};
 ghost use Prim.Native.Nat.{_≤_};
 ghost use lib.ListN.{length};
-ghost use Rattle.cases.specs.Reading.{Onward};
+ghost use Rattle.texts.specs.Reading.{Onward};
 ghost use Rattle.kinds.specs.Kinds.{spaceRow};
 use crate::rows::read_tagged;
 use cases::Cursor;

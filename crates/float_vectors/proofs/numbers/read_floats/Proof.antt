@@ -5,7 +5,7 @@ use mathlib.Core.Path.{_≡_, sym}
 use lib.ListN.{length}
 use lib.Seq.{length-take-le}
 use borrow.Author.Needs.{needs}
-use Rattle.cases.specs.Reading.{Onward}
+use Rattle.texts.specs.Reading.{Onward}
 use Rattle.float_vectors.proofs.numbers.read_floats.Statement.{statement}
 use Rattle.float_vectors.proofs.numbers.read_floats.Tie as tie
 

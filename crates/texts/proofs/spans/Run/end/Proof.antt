@@ -2,9 +2,9 @@
 use Prim.Native.Nat.{_-_}
 use lib.ListN.{length}
 use borrow.Author.Needs.{needs}
-use Rattle.cases.specs.Reading.{Onward}
-use Rattle.cases.proofs.spans.Run.end.Statement.{statement}
-use Rattle.cases.proofs.spans.Run.end.Tie as tie
+use Rattle.texts.specs.Reading.{Onward}
+use Rattle.texts.proofs.spans.Run.end.Statement.{statement}
+use Rattle.texts.proofs.spans.Run.end.Tie as tie
 
 abbrev Inv-loop : tie.InvT-loop
 Inv-loop self text from at₀ at = Onward text from at

@@ -3,8 +3,8 @@
 use Prim.Native.Nat.{_-_, _≤_}
 use lib.ListN.{length}
 use borrow.Author.Needs.{needs}
-use Rattle.cases.proofs.numbers.decimal.Statement.{statement}
-use Rattle.cases.proofs.numbers.decimal.Tie as tie
+use Rattle.texts.proofs.numbers.decimal.Statement.{statement}
+use Rattle.texts.proofs.numbers.decimal.Tie as tie
 
 abbrev Inv-loop : tie.InvT-loop
 Inv-loop digits value₀ i₀ value i = value ≤ 4294967296

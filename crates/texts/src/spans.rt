@@ -1,7 +1,7 @@
 // Runs of bytes of one kind in the text: blanks and line ends, digits, the rest of a line.
 ghost use Prim.Native.Nat.{_≤_};
 ghost use lib.ListN.{length};
-ghost use Rattle.cases.specs.Reading.{Onward};
+ghost use Rattle.texts.specs.Reading.{Onward};
 
 pub enum Run {
     Blanks,

@@ -5,8 +5,8 @@ use mathlib.Core.Path.{_≡_, sym}
 use lib.ListN.{length}
 use lib.Seq.{length-take-le}
 use borrow.Author.Needs.{needs}
-use Rattle.cases.proofs.bytes.read_bytes.Statement.{statement}
-use Rattle.cases.proofs.bytes.read_bytes.Tie as tie
+use Rattle.texts.proofs.bytes.read_bytes.Statement.{statement}
+use Rattle.texts.proofs.bytes.read_bytes.Tie as tie
 
 abbrev Inv-loop : tie.InvT-loop
 Inv-loop text into₀ count group₀ i₀ into group i =

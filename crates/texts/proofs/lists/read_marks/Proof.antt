@@ -5,9 +5,9 @@ use mathlib.Core.Path.{_≡_, sym}
 use lib.ListN.{length}
 use lib.Seq.{length-take-le}
 use borrow.Author.Needs.{needs}
-use Rattle.cases.specs.Reading.{Onward}
-use Rattle.cases.proofs.lists.read_marks.Statement.{statement}
-use Rattle.cases.proofs.lists.read_marks.Tie as tie
+use Rattle.texts.specs.Reading.{Onward}
+use Rattle.texts.proofs.lists.read_marks.Statement.{statement}
+use Rattle.texts.proofs.lists.read_marks.Tie as tie
 
 abbrev Inv-loop : tie.InvT-loop
 Inv-loop text into₀ count next₀ i₀ into next i = (length into ≡ length into₀) × Onward text (next₀ .at) (next .at)

@@ -1,7 +1,7 @@
 // A list of bytes in hex: its length, then groups of bytes, two digits each; a group may be repeated, as in 3x00FF.
 ghost use Prim.Native.Nat.{_≤_};
 ghost use lib.ListN.{length};
-ghost use Rattle.cases.specs.Reading.{Onward, Counted};
+ghost use Rattle.texts.specs.Reading.{Onward, Counted};
 use crate::cursor::Cursor;
 use crate::cursor::Fault;
 use crate::cursor::going;

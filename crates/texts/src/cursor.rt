@@ -2,6 +2,7 @@
 // that reading a case is a row of calls with no branch between them.
 ghost use mathlib.Core.Path.{_≡_};
 
+// The faults that only a crate above meets stand here too, since a cursor carries whichever comes first.
 pub enum Fault {
     None,
     // No digit, or a digit with something else than a blank after it.

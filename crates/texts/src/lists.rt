@@ -2,7 +2,7 @@
 ghost use mathlib.Core.Path.{_≡_};
 ghost use Prim.Native.Nat.{_≤_};
 ghost use lib.ListN.{length};
-ghost use Rattle.cases.specs.Reading.{Onward, Counted};
+ghost use Rattle.texts.specs.Reading.{Onward, Counted};
 use crate::cursor::Cursor;
 use crate::cursor::Fault;
 use crate::cursor::stopped;

@@ -1,5 +1,6 @@
 -- A turn and the end of each loop of a share, said of lists. Assumes nothing.
 use mathlib.Core.Path.{_≡_, refl}
+use mathlib.Core.Bool.{Bool}
 use mathlib.Core.List.{List, [], _∷_, map, zipWith}
 use Prim.Native.Nat.{ℕ, zero, suc, _+_, _-_, _≤_, _<_}
 use native.Mathlib.Nat.{le-of-suc-le-suc, not-suc-le-zero}
@@ -12,7 +13,7 @@ use Rattle.lines.specs.Rule.{firstTrack}
 use Rattle.lines.specs.Rule as rule
 use Rattle.lines.specs.Rows.{lineOf, linesOf}
 use Rattle.letters.specs.declared.share.Share.{Share}
-use Rattle.letters.specs.Shares.{shareTrack, shareTracks}
+use Rattle.letters.specs.Shares.{shareTrack, shareTracks, restOf, restTracks}
 use Rattle.letters.proofs.Steps.{linesFrom, lines-next, lines-end}
 
 module _ (share : Share) (dots : ℕ) (rows : List Row) where
@@ -67,6 +68,38 @@ module _ (letter : rule.Letter) (dots : ℕ) (rows : List Row) where
   pub first-caps-end : (i : ℕ) → length rows ≤ i → firstCapsFrom i ≡ []
   unfolding caps
   first-caps-end i h = rw (lines-end rows i h) refl
+
+-- ---- what remains
+
+module _ (letter : rule.Letter) (narrow : Bool) (dots : ℕ) (rows : List Row) where
+  -- the caps from the place i on
+  abbrev pub restCapsFrom : List ℕ → ℕ → List ℕ
+  restCapsFrom gains i = caps dots (restTracks letter narrow (linesFrom rows i) (drop i gains))
+
+  pub rest-caps-step : (gains : List ℕ) (i v : ℕ) → i < length rows → i < length gains
+      → v ≡ capOf dots (restOf letter narrow (lineOf (getD rows i [])) (getD gains i 0))
+      → restCapsFrom gains i ≡ v ∷ restCapsFrom gains (i + 1)
+  unfolding caps restTracks zipWith
+  rest-caps-step gains i v h g e = rw (lines-next rows i h, next gains i 0 g, e) refl
+
+  pub rest-caps-end : (gains : List ℕ) (i : ℕ) → length rows ≤ i → restCapsFrom gains i ≡ []
+  unfolding caps restTracks zipWith
+  rest-caps-end gains i h = rw (lines-end rows i h) refl
+
+  -- the gains from the place i on, with the caps on top
+  abbrev pub cappedFrom : ℕ → List ℕ → List ℕ
+  cappedFrom i gains = zipWith _+_ gains (caps dots (restTracks letter narrow (linesFrom rows i) gains))
+
+  pub capped-step : (i x v : ℕ) (xs : List ℕ) → i < length rows → v ≡ x + capOf dots (restOf letter narrow (lineOf (getD rows i [])) x)
+      → cappedFrom i (x ∷ xs) ≡ v ∷ cappedFrom (i + 1) xs
+  unfolding caps restTracks zipWith
+  capped-step i x v xs h e = rw (lines-next rows i h, e) refl
+
+  pub capped-nil : (i : ℕ) → cappedFrom i [] ≡ []
+  unfolding zipWith
+  capped-nil i = refl
+
+-- ---- what was taken
 
 module _ (rests : List ℕ) (i : ℕ) where
   -- what the rests from the place i on lost of their caps

@@ -1,28 +1,39 @@
 -- A share is a fill of tracks before their first round, and the two shares of a letter are the rule's. Assumes nothing.
 use mathlib.Core.Path.{_≡_, refl, sym, ap, ap₂, _∙_}
-use mathlib.Core.Bool.{Bool}
+use mathlib.Core.Bool.{Bool, true, false, cond}
 use mathlib.Core.List.{List, [], _∷_, map, zipWith}
-use Prim.Native.Nat.{ℕ, zero, suc, _+_, _≤_}
+use Prim.Native.Nat.{ℕ, zero, suc, _+_, _-_, _≤_, zero-le}
 use native.Mathlib.Nat.{zero-add}
 use native.Mathlib.Omega.{arith}
 use lib.ListN.{length, getD, replicate, length-map}
 use Rattle.laws.specs.Lists.{some, All}
 use Rattle.laws.specs.Alls.{image-all}
+use Rattle.laws.specs.Marks.{bit}
 use Rattle.fill.specs.Rule.{mostDots, gainsOf, Fill, fill}
 use Rattle.fill.specs.Rule as fill
-use Rattle.fill.specs.Rests.{caps, lost, stateOf, fillRests}
+use Rattle.fill.specs.Rests.{capIn, capOf, caps, takeEach, takeMarked, lost, State, stateOf, fillRests}
+use Rattle.fill.proofs.OpenMarks.{Among, one, odd-among}
+use Rattle.fill.proofs.Level.{fill-level}
 use Rattle.fill.proofs.Tied.{Fresh}
 use Rattle.fill.proofs.Fresh.{gain-add-left-le, lost-is-gains, left-is-left, rounds-are-rounds}
-use Rattle.kinds.specs.Kinds.{Row}
+use Rattle.kinds.specs.Kinds.{Row, maximumNumber}
+use Rattle.kinds.specs.declared.track.Maximum.{Maximum}
+use Rattle.kinds.specs.declared.track.Maximum.the-variants as maximum
+use Rattle.checks.specs.Rule.{mostSize}
+use Rattle.checks.specs.Sound.{mostOf}
+use Rattle.lines.specs.declared.limit.Limit.{Limit}
+use Rattle.lines.specs.declared.limit.Limit.the-variants.{None, UpTo}
 use Rattle.lines.specs.declared.line.Line.{Line}
-use Rattle.lines.specs.Rule.{firstTrack, moreGains, shares}
+use Rattle.lines.specs.Rule.{argumentOf, argument, roomTo, limitSize, firstTrack, moreGains, shares}
 use Rattle.lines.specs.Rule as rule
-use Rattle.lines.specs.Rows.{lineOf, linesOf}
+use Rattle.lines.specs.Rows.{limitNumber, lineOf, linesOf}
+use Rattle.lines.specs.Fits.{LineFits}
 use Rattle.letters.specs.declared.letter.Letter.{Letter}
+use Rattle.letters.specs.declared.letter.Letter.the-variants.{A, B, C, D, E, F}
 use Rattle.letters.specs.declared.share.Share.{Share}
-use Rattle.letters.specs.declared.share.Share.the-variants.{First, Rest, Maximise, Stretch}
+use Rattle.letters.specs.declared.share.Share.the-variants.{Maximise, Stretch}
 use Rattle.letters.specs.Letters.{letterOf, most}
-use Rattle.letters.specs.Shares.{shareTrack, shareTracks, isTaker}
+use Rattle.letters.specs.Shares.{shareTrack, shareTracks, isTaker, restOf, restTracks}
 
 -- ---- tracks before their first round
 
@@ -33,8 +44,6 @@ zip-fresh f z (l ∷ ls) [] = tt
 zip-fresh f z (l ∷ ls) (g ∷ gains) = (z l g, zip-fresh f z ls gains)
 
 share-gain : (share : Share) (l : Line) (g : ℕ) → shareTrack share l g .gain ≡ 0
-share-gain (First letter) l g = refl
-share-gain (Rest letter narrow) l g = refl
 share-gain Maximise l g = refl
 share-gain Stretch l g = refl
 
@@ -101,9 +110,8 @@ unfolding shareTracks zipWith
 tracks-of-zeros share [] = refl
 tracks-of-zeros share (l ∷ ls) = ap (shareTrack share l 0 ∷_) (tracks-of-zeros share ls)
 
--- ---- both shares of a letter
+-- ---- the first share of a letter
 
--- the first
 abbrev pub firstFill : rule.Letter → ℕ → List Line → Fill
 firstFill letter extra ls = fill extra (map (firstTrack letter) ls)
 
@@ -123,16 +131,86 @@ first-shared letter extra ls cs rs xs gs left rounds kept loaded ran taken =
       left-is-left extra ts fresh xs left rounds filled,
     )
 
+-- ---- what remains
+
+pub rest-fresh : (letter : rule.Letter) (narrow : Bool) (ls : List Line) (gains : List ℕ) → Fresh (restTracks letter narrow ls gains)
+unfolding restTracks
+rest-fresh letter narrow ls gains = zip-fresh (restOf letter narrow) (λ l g. refl) ls gains
+
+-- a rest is within its cap, so it can be taken off the gain that has the cap on top
+taken-off : (level : ℕ) (gains cs : List ℕ) {ms : List Bool} → Among ms (takeEach level cs)
+    → lost (zipWith _+_ gains cs) (takeMarked ms (takeEach level cs)) ≡ zipWith _+_ gains (lost cs (takeMarked ms (takeEach level cs)))
+unfolding zipWith lost takeMarked takeEach
+taken-off level [] cs a = refl
+taken-off level (g ∷ gains) [] a = refl
+taken-off level (g ∷ gains) (c ∷ cs) (one {m = m} h a) =
+    let e : g + c - (c - level - bit m) ≡ g + (c - (c - level - bit m)) = omega arith in
+    ap₂ _∷_ e (taken-off level gains cs a)
+
+filled-off : (dots : ℕ) (gains cs xs : List ℕ) (left rounds : ℕ) → fillRests dots cs ≡ stateOf xs left rounds
+    → lost (zipWith _+_ gains cs) xs ≡ zipWith _+_ gains (lost cs xs)
+filled-off dots gains cs xs left rounds ran =
+    let v = fill-level dots cs in
+    let is = ap (λ (s : State). s .rests) (sym ran) ∙ v .is in
+    rw is (taken-off (v .level) gains cs (odd-among (v .odd) (takeEach (v .level) cs)))
+
+-- the caps are loaded into the rests rs and on top of the gains, which are then cs; the rounds leave xs of the rests, and these
+-- are taken off
+pub rest-shared : (letter : rule.Letter) (narrow : Bool) (dots : ℕ) (ls : List Line) (gains cs rs xs gs : List ℕ) (left rounds : ℕ)
+    → cs ≡ zipWith _+_ gains (caps dots (restTracks letter narrow ls gains)) → rs ≡ caps dots (restTracks letter narrow ls gains)
+    → fillRests dots rs ≡ stateOf xs left rounds → gs ≡ lost cs xs
+    → gs ≡ moreGains gains (fill dots (restTracks letter narrow ls gains))
+rest-shared letter narrow dots ls gains cs rs xs gs left rounds kept loaded ran taken =
+    let ts = restTracks letter narrow ls gains in
+    let filled = ap (fillRests dots) (sym loaded) ∙ ran in
+    taken
+    ∙ ap (λ (ys : List ℕ). lost ys xs) kept
+    ∙ filled-off dots gains (caps dots ts) xs left rounds filled
+    ∙ ap (zipWith _+_ gains) (lost-is-gains dots ts (rest-fresh letter narrow ls gains) xs left rounds filled)
+
+-- no cap is above the most dots: an argument is a size
+argument-le : (m : Maximum) → maximumNumber m ≤ mostOf m → limitNumber (argumentOf m) ≤ mostSize
+argument-le (maximum.Fixed n) h = zero-le
+argument-le maximum.Auto h = zero-le
+argument-le maximum.MinContent h = zero-le
+argument-le maximum.MaxContent h = zero-le
+argument-le (maximum.FitContent n) h = h
+argument-le (maximum.Fr n) h = zero-le
+
+room-le : (dots size : ℕ) (limit : Limit) → dots ≤ mostDots → limitNumber limit ≤ mostSize → capIn dots (roomTo limit size) ≤ mostDots
+room-le dots size None d h = d
+room-le dots size (UpTo n) d h = omega arith
+
+rest-room-le : (letter : Letter) (dots gain : ℕ) (l : Line) → dots ≤ mostDots → LineFits l → capIn dots (letterOf letter .restRoom l gain) ≤ mostDots
+rest-room-le A dots gain l d f = d
+rest-room-le B dots gain l d f = d
+rest-room-le C dots gain l d f = d
+rest-room-le D dots gain l d f = d
+rest-room-le E dots gain l d f = room-le dots (limitSize l + gain) (argument l) d (argument-le (l .track .maximum) (f .track .1))
+rest-room-le F dots gain l d f = room-le dots (limitSize l + gain) (argument l) d (argument-le (l .track .maximum) (f .track .1))
+
+cond-le : (b : Bool) (n k : ℕ) → n ≤ k → cond b n 0 ≤ k
+cond-le true n k h = h
+cond-le false n k h = zero-le
+
+pub rest-cap-le : (letter : Letter) (narrow : Bool) (dots gain : ℕ) (l : Line) → dots ≤ mostDots → LineFits l
+    → capOf dots (restOf (letterOf letter) narrow l gain) ≤ mostDots
+rest-cap-le letter narrow dots gain l d f =
+    let t = restOf (letterOf letter) narrow l gain in
+    cond-le (t .affected) (capIn dots (t .room)) mostDots (rest-room-le letter dots gain l d f)
+
+-- ---- both shares of a letter
+
 module _ (letter : Letter) (extra : ℕ) (ls : List Line) (gs : List ℕ) (left : ℕ)
     (first : (gs ≡ gainsOf (firstFill (letterOf letter) extra ls .tracks)) × (left ≡ firstFill (letterOf letter) extra ls .left)) where
   -- a gain of the first share, and what is left of it, are no more than the dots
   pub first-le : (i : ℕ) → getD gs i 0 + left ≤ extra
   first-le i = rw (first .0, first .1) (gain-add-left-le extra (map (firstTrack (letterOf letter)) ls) (first-fresh (letterOf letter) ls) i)
 
-  pub both-shares : (narrow : Bool) (hs : List ℕ) → narrow ≡ some (isTaker (letterOf letter)) ls → hs ≡ moreGains gs (fill left (shareTracks (Rest letter narrow) ls gs))
+  pub both-shares : (narrow : Bool) (hs : List ℕ) → narrow ≡ some (isTaker (letterOf letter)) ls → hs ≡ moreGains gs (fill left (restTracks (letterOf letter) narrow ls gs))
       → hs ≡ shares (letterOf letter) extra ls
-  unfolding shares shareTracks
+  unfolding shares restTracks
   both-shares narrow hs n e =
       e
-      ∙ ap (λ (b : Bool). moreGains gs (fill left (shareTracks (Rest letter b) ls gs))) n
-      ∙ ap₂ (λ (ys : List ℕ) (d : ℕ). moreGains ys (fill d (shareTracks (Rest letter (some (isTaker (letterOf letter)) ls)) ls ys))) (first .0) (first .1)
+      ∙ ap (λ (b : Bool). moreGains gs (fill left (restTracks (letterOf letter) b ls gs))) n
+      ∙ ap₂ (λ (ys : List ℕ) (d : ℕ). moreGains ys (fill d (restTracks (letterOf letter) (some (isTaker (letterOf letter)) ls) ls ys))) (first .0) (first .1)

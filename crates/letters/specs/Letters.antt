@@ -1,6 +1,6 @@
 -- The code's letters, and its tests of kinds, in the words of the rule. Assumes nothing.
 use Prim.Native.Nat.{ℕ}
-use mathlib.Core.Bool.{Bool, false}
+use mathlib.Core.Bool.{Bool, true, false}
 use Rattle.kinds.specs.declared.track.Minimum.{Minimum}
 use Rattle.kinds.specs.declared.track.Minimum.the-variants as minimum
 use Rattle.kinds.specs.declared.track.Maximum.{Maximum}
@@ -19,6 +19,15 @@ letterOf C = letterC
 letterOf D = letterD
 letterOf E = letterE
 letterOf F = letterF
+
+-- whether it may change a line that gets no increase
+abbrev pub settles : Letter → Bool
+settles A = false
+settles B = false
+settles C = false
+settles D = true
+settles E = true
+settles F = true
 
 abbrev pub byMinimum : Minimum → Bool → Bool → Bool → Bool
 byMinimum (minimum.Fixed n) auto least most = false

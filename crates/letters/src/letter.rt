@@ -8,7 +8,7 @@ ghost use mathlib.Core.Path.{_≡_};
 ghost use Prim.Native.Nat.{_+_, _≤_};
 ghost use Rattle.lines.specs.Rows.{lineOf, roomOf};
 ghost use Rattle.lines.specs.Rule.{limitSize, grownBase, grownLimit, limitRoom};
-ghost use Rattle.letters.specs.Letters.{byMinimum, byMaximum, letterOf, most};
+ghost use Rattle.letters.specs.Letters.{byMinimum, byMaximum, letterOf, settles, most};
 
 pub enum Letter {
     A,
@@ -135,6 +135,20 @@ impl Letter {
             Letter::D => line.base,
             Letter::E => line.limit_size(),
             Letter::F => line.limit_size(),
+        }
+    }
+
+    // Whether it may change a line that gets no increase: (d) lifts limits, (e) and (f) take marks away.
+    pub fn settles(self) -> bool
+        ensures { λ r. ⌜ r ≡ settles self ⌝ }
+    {
+        match self {
+            Letter::A => false,
+            Letter::B => false,
+            Letter::C => false,
+            Letter::D => true,
+            Letter::E => true,
+            Letter::F => true,
         }
     }
 

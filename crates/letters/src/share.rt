@@ -1,5 +1,5 @@
-// A share of dots among lines: each gets what the fill gives it, on top of the gain that it has. The rests are scratch: what
-// stands in them is not read.
+// Shares of dots among lines: each gets what the fill gives it, on top of the gain that it has. The two shares of a letter find
+// each cap once, and keep it in the gain while the rounds run. The rests are scratch: what stands in them is not read.
 use crate::letter::Letter;
 use fill::Rounds;
 use fill::run_rounds;
@@ -17,14 +17,12 @@ ghost use Rattle.fill.specs.Rule.{mostTracks, mostDots, gainsOf, fill};
 ghost use Rattle.fill.specs.Rests.{capIn, capOf, caps, lost};
 ghost use Rattle.lines.specs.Rule.{maxIn, firstTrack, moreGains, shares};
 ghost use Rattle.lines.specs.Rows.{linesOf, roomOf};
+ghost use Rattle.lines.specs.Fits.{LinesFit};
 ghost use Rattle.letters.specs.Letters.{letterOf, most};
-ghost use Rattle.letters.specs.Shares.{shareTrack, shareTracks, isTaker};
+ghost use Rattle.letters.specs.Shares.{shareTrack, shareTracks, isTaker, restTracks};
 
-// What is shared out: the first share of a letter, what remains of it, the dots of step 5, or those of step 7. `narrow` says
-// that some affected track takes what remains, so that the others do not.
+// What is shared out beside the letters: the dots of step 5, or those of step 7.
 pub enum Share {
-    First { letter: Letter },
-    Rest { letter: Letter, narrow: bool },
     Maximise,
     Stretch,
 }
@@ -39,6 +37,8 @@ fn cap_of(affected: bool, room: Limit, dots: u32) -> u32
     0
 }
 
+// Whether a track takes what remains of a letter's dots. `narrow` says that some affected track does before the others, so that
+// these do not.
 fn takes_rest(letter: Letter, narrow: bool, line: Line) -> bool
     ensures { λ r. ⌜ r ≡ (letterOf letter .affected line && (letterOf letter .takes line || not narrow)) ⌝ }
 {
@@ -71,14 +71,6 @@ impl Share {
         ensures { λ r. ⌜ r ≡ capOf dots (shareTrack self line gain) ⌝ }
     {
         match self {
-            Share::First { letter } => cap_of(letter.affected(line), letter.room(line), dots),
-            Share::Rest { letter, narrow } => {
-                cap_of(
-                    takes_rest(letter, narrow, line),
-                    letter.rest_room(line, gain),
-                    dots,
-                )
-            }
             Share::Maximise => cap_of(true, line.base_room(), dots),
             Share::Stretch => cap_of(is_auto(line), Limit::None, dots),
         }
@@ -134,15 +126,16 @@ fn load_first(letter: Letter, dots: u32, lines: &[[u32; 8]], gains: &mut [u32], 
 {
     let mut i = 0;
     while i < lines.len() {
-        let cap = Share::First { letter }.cap(Line::of_row(lines[i]), 0, dots);
+        let line = Line::of_row(lines[i]);
+        let cap = cap_of(letter.affected(line), letter.room(line), dots);
         gains[i] = cap;
         rests[i] = cap;
         i += 1;
     }
 }
 
-// Of each cap in the gains, what its rest lost.
-fn collect_first(rests: &[u32], gains: &mut [u32])
+// Each rest is taken off its gain: of the cap that stands in it, what was taken stays.
+fn take_off(rests: &[u32], gains: &mut [u32])
     requires { ⌜ length (now rests) ≡ length (now gains) ⌝ }
     ensures { λ _. ⌜ now (gains .exit) ≡ lost (now (gains .entry)) (now (rests .entry)) ⌝ }
 {
@@ -167,7 +160,7 @@ fn share_first(
 {
     load_first(letter, dots, lines, gains, rests);
     let done = run_rounds(dots, rests);
-    collect_first(rests, gains);
+    take_off(rests, gains);
     done.left
 }
 
@@ -186,6 +179,50 @@ fn some_taker(letter: Letter, lines: &[[u32; 8]]) -> bool
     false
 }
 
+// The caps of what remains: the rounds run on the rests, and each gain has its cap on top.
+fn load_rest(
+    letter: Letter,
+    narrow: bool,
+    dots: u32,
+    lines: &[[u32; 8]],
+    gains: &mut [u32],
+    rests: &mut [u32],
+)
+    requires { ⌜ (length (now gains) ≡ length (now lines)) × (length (now rests) ≡ length (now lines)) × (dots ≤ mostDots) × ((i : ℕ) → getD (now gains) i 0 ≤ mostDots) × LinesFit (linesOf (now lines)) ⌝ }
+    ensures { λ _. ⌜ (now (gains .exit) ≡ zipWith _+_ (now (gains .entry)) (caps dots (restTracks (letterOf letter) narrow (linesOf (now (lines .entry))) (now (gains .entry))))) × (now (rests .exit) ≡ caps dots (restTracks (letterOf letter) narrow (linesOf (now (lines .entry))) (now (gains .entry)))) ⌝ }
+{
+    let mut i = 0;
+    while i < lines.len() {
+        let line = Line::of_row(lines[i]);
+        let gain = gains[i];
+        let cap = cap_of(
+            takes_rest(letter, narrow, line),
+            letter.rest_room(line, gain),
+            dots,
+        );
+        gains[i] = gain + cap;
+        rests[i] = cap;
+        i += 1;
+    }
+}
+
+// What remains of a letter's dots, on top of the gains of the first share.
+fn share_rest(
+    letter: Letter,
+    narrow: bool,
+    dots: u32,
+    lines: &[[u32; 8]],
+    gains: &mut [u32],
+    rests: &mut [u32],
+)
+    requires { ⌜ (length (now gains) ≡ length (now lines)) × (length (now rests) ≡ length (now lines)) × (length (now lines) ≤ mostTracks) × (dots ≤ mostDots) × ((i : ℕ) → getD (now gains) i 0 ≤ mostDots) × LinesFit (linesOf (now lines)) ⌝ }
+    ensures { λ _. ⌜ now (gains .exit) ≡ moreGains (now (gains .entry)) (fill dots (restTracks (letterOf letter) narrow (linesOf (now (lines .entry))) (now (gains .entry)))) ⌝ }
+{
+    load_rest(letter, narrow, dots, lines, gains, rests);
+    run_rounds(dots, rests);
+    take_off(rests, gains);
+}
+
 // Both shares of a letter's extra dots; the second only if dots remain.
 pub fn share_extra(
     letter: Letter,
@@ -194,7 +231,7 @@ pub fn share_extra(
     gains: &mut [u32],
     rests: &mut [u32],
 )
-    requires { ⌜ (length (now gains) ≡ length (now lines)) × (length (now rests) ≡ length (now lines)) × (length (now lines) ≤ mostTracks) × (extra ≤ mostDots) ⌝ }
+    requires { ⌜ (length (now gains) ≡ length (now lines)) × (length (now rests) ≡ length (now lines)) × (length (now lines) ≤ mostTracks) × (extra ≤ mostDots) × LinesFit (linesOf (now lines)) ⌝ }
     ensures { λ _. ⌜ now (gains .exit) ≡ shares (letterOf letter) extra (linesOf (now (lines .entry))) ⌝ }
 {
     let left = share_first(letter, extra, lines, gains, rests);
@@ -202,5 +239,5 @@ pub fn share_extra(
         return;
     }
     let narrow = some_taker(letter, lines);
-    share_out(Share::Rest { letter, narrow }, left, lines, gains, rests);
+    share_rest(letter, narrow, left, lines, gains, rests);
 }

@@ -1,11 +1,12 @@
 -- Lines at rest: a letter that gives nothing leaves them, a batch ends with them, and so does step 2. Assumes nothing.
-use mathlib.Core.Path.{_≡_, refl, sym, ap, _∙_}
-use mathlib.Core.Bool.{Bool, true, false, cond, _&&_}
+use mathlib.Core.Path.{_≡_, refl, sym, ap, _∙_, subst}
+use mathlib.Core.Bool.{Bool, true, false, cond, not, _&&_, true≢false}
 use mathlib.Core.List.{List, [], _∷_, map, zipWith}
 use Prim.Native.Nat.{ℕ, zero, suc, _+_, _≤_, max}
 use native.Mathlib.Nat.{add-zero}
 use native.Mathlib.Omega.{arith}
-use lib.Dec.{ltb}
+use borrow.Author.Tests.{eqb-true, not-false}
+use lib.Dec.{ltb, eqb}
 use lib.ListN.{length, replicate}
 use Rattle.laws.specs.Lists.{All, inTurn, changeAt}
 use Rattle.kinds.specs.declared.space.Constraint.{Constraint}
@@ -18,7 +19,7 @@ use Rattle.lines.specs.declared.measured.Measured.{Measured}
 use Rattle.lines.specs.Rule.{line, atLeast, limitPlus, isNone, settled, grownBase, grownLimit, increases, raise, start, withItem, withItemAt, singles}
 use Rattle.letters.specs.declared.letter.Letter.{Letter}
 use Rattle.letters.specs.declared.letter.Letter.the-variants.{A, B, C, D, E, F}
-use Rattle.letters.specs.Letters.{letterOf}
+use Rattle.letters.specs.Letters.{letterOf, settles}
 use Rattle.spans.specs.Work.{above, AtRest, Calm, letterAt, hasPlace, letterStep, letterSteps}
 
 -- ---- an increase of nothing
@@ -36,10 +37,10 @@ unmarked true None = refl
 unmarked true (UpTo n) = refl
 unmarked false limit = refl
 
-module _ (l : Line) (r : AtRest l) where
-  base-stays : grownBase l 0 ≡ l
-  base-stays = ap (λ (b : ℕ). line (l .track) b (l .limit) (l .grows)) (add-zero (l .base))
+base-stays : (l : Line) → grownBase l 0 ≡ l
+base-stays l = ap (λ (b : ℕ). line (l .track) b (l .limit) (l .grows)) (add-zero (l .base))
 
+module _ (l : Line) (r : AtRest l) where
   settled-stays : settled l ≡ l
   settled-stays = ap (λ (m : Limit). line (l .track) (l .base) m (l .grows)) (at-least-above (l .base) (l .limit) (r .0))
 
@@ -49,17 +50,33 @@ module _ (l : Line) (r : AtRest l) where
       ∙ ap (line (l .track) (l .base) (l .limit)) (unmarked marks (l .limit) ∙ sym (r .1))
 
   grown-stays : (letter : Letter) → letterOf letter .grown l 0 ≡ l
-  grown-stays A = base-stays
-  grown-stays B = base-stays
-  grown-stays C = base-stays
-  grown-stays D = ap settled base-stays ∙ settled-stays
+  grown-stays A = base-stays l
+  grown-stays B = base-stays l
+  grown-stays C = base-stays l
+  grown-stays D = ap settled (base-stays l) ∙ settled-stays
   grown-stays E = limit-stays true
   grown-stays F = limit-stays false
 
-pub calm-stays : (letter : Letter) (ls : List Line) → Calm ls → zipWith (letterOf letter .grown) ls (replicate (length ls) 0) ≡ ls
+calm-stays : (letter : Letter) (ls : List Line) → Calm ls → zipWith (letterOf letter .grown) ls (replicate (length ls) 0) ≡ ls
 unfolding zipWith All
 calm-stays letter [] r = refl
 calm-stays letter (l ∷ ls) r = rw (grown-stays l (r .0) letter) (ap (l ∷_) (calm-stays letter ls (r .1)))
+
+bases-stay : (ls : List Line) → zipWith grownBase ls (replicate (length ls) 0) ≡ ls
+unfolding zipWith
+bases-stay [] = refl
+bases-stay (l ∷ ls) = rw (base-stays l) (ap (l ∷_) (bases-stay ls))
+
+-- lines that are calm, or a letter that settles nothing
+pub lines-stay : (letter : Letter) (moved : Bool) (ls : List Line) → (moved && settles letter) ≡ false → (moved ≡ false → Calm ls)
+    → zipWith (letterOf letter .grown) ls (replicate (length ls) 0) ≡ ls
+lines-stay letter false ls e calm = calm-stays letter ls (calm refl)
+lines-stay A true ls e calm = bases-stay ls
+lines-stay B true ls e calm = bases-stay ls
+lines-stay C true ls e calm = bases-stay ls
+lines-stay D true ls e calm = absurd (true≢false e)
+lines-stay E true ls e calm = absurd (true≢false e)
+lines-stay F true ls e calm = absurd (true≢false e)
 
 -- ---- a batch
 
@@ -100,10 +117,46 @@ pub batch-calm : (c : Constraint) (batch : List Measured) (ls : List Line) → C
 unfolding letterSteps letterStep raise
 batch-calm c batch ls = calm-by-f _ _ (settled-through-e _ _ (settled-by-d (letterSteps 3 c batch ls) _))
 
--- ---- step 2
+-- after (d) too, where the batch began with calm lines
 
 abbrev Unmarked : List Line → Type 0
 Unmarked = All (λ (l : Line). l .grows ≡ false)
+
+calm-unmarked : (ls : List Line) → Calm ls → Unmarked ls
+unfolding All
+calm-unmarked [] r = tt
+calm-unmarked (l ∷ ls) r = (r .0 .1, calm-unmarked ls (r .1))
+
+bases-unmarked : (ls : List Line) (ps : List ℕ) → Unmarked ls → Unmarked (zipWith grownBase ls ps)
+unfolding zipWith All
+bases-unmarked [] ps u = tt
+bases-unmarked (l ∷ ls) [] u = tt
+bases-unmarked (l ∷ ls) (p ∷ ps) u = (u .0, bases-unmarked ls ps (u .1))
+
+calm-by-d : (ls : List Line) (ps : List ℕ) → Unmarked ls → Calm (zipWith (letterOf D .grown) ls ps)
+unfolding zipWith All
+calm-by-d [] ps u = tt
+calm-by-d (l ∷ ls) [] u = tt
+calm-by-d (l ∷ ls) (p ∷ ps) u = ((above-settled (l .base + p) (l .limit), u .0), calm-by-d ls ps (u .1))
+
+three-unmarked : (c : Constraint) (batch : List Measured) (ls : List Line) → Unmarked ls → Unmarked (letterSteps 3 c batch ls)
+unfolding letterSteps letterStep raise
+three-unmarked (Definite n) batch ls u = bases-unmarked _ _ (bases-unmarked _ _ u)
+three-unmarked MinContent batch ls u = bases-unmarked _ _ (bases-unmarked _ _ u)
+three-unmarked MaxContent batch ls u = bases-unmarked _ _ (bases-unmarked _ _ (bases-unmarked _ _ u))
+
+half-calm : (c : Constraint) (batch : List Measured) (ls : List Line) → Calm ls → Calm (letterSteps 4 c batch ls)
+unfolding letterSteps letterStep raise
+half-calm c batch ls r = calm-by-d _ _ (three-unmarked c batch ls (calm-unmarked ls r))
+
+pub still-calm : (c : Constraint) (batch : List Measured) (start ls : List Line) (k : ℕ) (moved : Bool) → Calm start → ls ≡ letterSteps k c batch start
+    → (moved ≡ false → Calm ls) → (moved && not (eqb k 4)) ≡ false → Calm ls
+still-calm c batch start ls k false r e calm off = calm refl
+still-calm c batch start ls k true r e calm off =
+    let four : k ≡ 4 = eqb-true k 4 (not-false _ off) in
+    subst Calm (sym (e ∙ ap (λ (n : ℕ). letterSteps n c batch start) four)) (half-calm c batch start r)
+
+-- ---- step 2
 
 start-unmarked : (ts : List Track) → Unmarked (start ts)
 unfolding All start

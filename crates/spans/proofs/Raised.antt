@@ -21,8 +21,7 @@ use Rattle.letters.proofs.Keeps.{length-increases, increases-fit-rows, raise-fi
 use Rattle.letters.proofs.Shared.{zeros-as, zeros-of-lines}
 use native.Mathlib.Omega.{arith}
 use Rattle.lines.specs.Chains.{ChainFits}
-use Rattle.spans.specs.Work.{Working, Calm, letterAt, hasPlace, letterStep, letterSteps}
-use Rattle.spans.proofs.Calm.{calm-stays}
+use Rattle.spans.specs.Work.{Working, letterAt, hasPlace, letterStep, letterSteps}
 
 module _ (letter : Letter) (c : Constraint) (batch : List Measured) (rows : List Row) (start planned : List ℕ)
     (none : start ≡ replicate (length rows) 0) (told : planned ≡ inTurn (increasedBy (letterOf letter) c (linesOf rows)) batch start) where
@@ -47,11 +46,12 @@ module _ (letter : Letter) (c : Constraint) (batch : List Measured) (rows : List
         let r : ls ≡ raise c batch (letterOf letter) (linesOf rows) = e ∙ ap (zipWith (letterOf letter .grown) (linesOf rows)) planned-is in
         (r, subst LinesFit (sym r) (raise-fits letter c n batch (linesOf rows) fits items))
 
-  -- where nothing was planned, calm lines stay as they are
-  pub not-raised : planned ≡ start → Calm (linesOf rows) → linesOf rows ≡ raise c batch (letterOf letter) (linesOf rows)
+  -- where nothing was planned, lines that stay without an increase stay
+  pub not-raised : planned ≡ start → zipWith (letterOf letter .grown) (linesOf rows) (replicate (length (linesOf rows)) 0) ≡ linesOf rows
+      → linesOf rows ≡ raise c batch (letterOf letter) (linesOf rows)
   unfolding raise
-  not-raised same calm =
-      sym (calm-stays letter (linesOf rows) calm)
+  not-raised same stay =
+      sym stay
       ∙ ap (zipWith (letterOf letter .grown) (linesOf rows)) (sym (zeros-of-lines rows (length rows) start none refl) ∙ sym same ∙ planned-is)
 
 -- ---- the letters by number

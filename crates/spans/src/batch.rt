@@ -125,8 +125,8 @@ fn plan_batch(
 }
 
 // One letter: increases are planned over the whole batch, then applied, and the totals made anew. The increases are all 0 before
-// and after. Where nothing is planned a letter changes no calm line. `moved` says that a letter of the batch has changed lines;
-// it comes back for the next.
+// and after. Where nothing is planned a letter changes no calm line, and the first three change no line at all. `moved` says that
+// lines may not be calm; it comes back for the next letter.
 fn raise(
     letter: Letter,
     constraint: Constraint,
@@ -155,9 +155,9 @@ fn raise(
         rests,
         sums,
     );
-    let moves = moved | planned;
-    if !moves {
-        return false;
+    let applies = planned | (moved & letter.settles());
+    if !applies {
+        return moved;
     }
     apply(letter, lines, increases);
     tally(lines, sums);
@@ -282,10 +282,12 @@ fn raise_all(
     let mut moved = false;
     let mut k: u32 = 0;
     while k < 6 {
+        // (d) leaves every line calm.
+        let still = moved & (k != 4);
         moved = raise_at(
             k,
             constraint,
-            moved,
+            still,
             first,
             nexts,
             items,

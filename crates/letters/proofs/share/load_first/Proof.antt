@@ -2,12 +2,14 @@
 -- nothing.
 use borrow.Author.Needs.{needs}
 use Rattle.letters.proofs.share.load_first.Statement.{statement}
-use mathlib.Core.Path.{_≡_, refl, ap, _∙_}
+use mathlib.Core.Path.{_≡_, refl, ap, ap₂, _∙_}
+use mathlib.Core.Bool.{Bool, cond}
 use mathlib.Core.List.{List, _++_}
 use Prim.Native.Nat.{ℕ, _+_, _-_, _≤_, zero-le}
 use lib.ListN.{length, take, length-set}
 use Rattle.laws.specs.Walk.{store-step, store-end}
-use Rattle.fill.specs.Rests.{capOf}
+use Rattle.fill.specs.Rule.{Room}
+use Rattle.fill.specs.Rests.{capIn, capOf}
 use Rattle.lines.specs.declared.line.Line.{Line}
 use Rattle.lines.specs.Rule.{firstTrack}
 use Rattle.letters.specs.Letters.{letterOf}
@@ -37,8 +39,14 @@ shared-slice-copy-out-of-row c = search needs
 of-row-requires : tie.Need-of-row-requires Inv-loop μ-loop
 of-row-requires c κs = search needs
 
-cap-requires : tie.Need-cap-requires Inv-loop μ-loop
-cap-requires c κs = search needs
+affected-requires : tie.Need-affected-requires Inv-loop μ-loop
+affected-requires c κs = search needs
+
+room-requires : tie.Need-room-requires Inv-loop μ-loop
+room-requires c κs = search needs
+
+cap-of-requires : tie.Need-cap-of-requires Inv-loop μ-loop
+cap-of-requires c κs = search needs
 
 mul-gains : tie.Need-mul-gains Inv-loop μ-loop
 mul-gains c = search needs
@@ -60,10 +68,13 @@ loop-less c = search needs
 
 loop-again : tie.Need-loop-again Inv-loop μ-loop
 loop-again c =
-    let a = c .before .before .before .before .before .before .before .args in
-    let h = c .before .before .before .before .loop in
+    let a = c .before .before .before .before .before .before .before .before .before .args in
+    let h = c .before .before .before .before .before .before .loop in
     let from = firstCapsFrom (letterOf (a .letter)) (a .dots) (a .lines .now) in
-    let one = c .cap .ensures ∙ ap (λ (l : Line). capOf (a .dots) (firstTrack (letterOf (a .letter)) l)) (c .before .of-row .ensures) in
+    let one =
+    c .cap-of .ensures
+    ∙ ap₂ (λ (affected : Bool) (room : Room). cond affected (capIn (a .dots) room) 0) (c .before .before .affected .ensures) (c .before .room .ensures)
+    ∙ ap (λ (l : Line). capOf (a .dots) (firstTrack (letterOf (a .letter)) l)) (c .before .before .before .of-row .ensures) in
     let turn = first-caps-step (letterOf (a .letter)) (a .dots) (a .lines .now) (h .i) _ (search needs) one in (
       search needs,
       simp length-set (h .inv .1),
@@ -98,7 +109,9 @@ load-first-spec =
     mul-of-row
     shared-slice-copy-out-of-row
     of-row-requires
-    cap-requires
+    affected-requires
+    room-requires
+    cap-of-requires
     mul-gains
     slice-write-gains
     mul-rests

@@ -26,12 +26,12 @@ returns c =
 some-taker-requires : tie.Need-some-taker-requires
 some-taker-requires c κs = search needs
 
-share-out-requires : tie.Need-share-out-requires
-share-out-requires c κs =
+share-rest-requires : tie.Need-share-rest-requires
+share-rest-requires c κs =
     let s = c .before .before .before .before .before .before .before .before .before .before .before .before .before in
     let le = first-le (s .args .letter) (s .args .extra) (linesOf (s .args .lines .now)) _ _ (c .before .before .before .before .before .before .before .before .share-first .ensures) in
     let few = s .pre .3 in
-    (search needs, search needs, search needs, omega (arith, le 0), λ (i : ℕ). omega (arith, le i))
+    (search needs, search needs, search needs, omega (arith, le 0), λ (i : ℕ). omega (arith, le i), s .pre .4)
 
 same-length-3 : tie.Need-same-length-3
 same-length-3 c = search needs
@@ -43,7 +43,7 @@ returns-2 : tie.Need-returns-2
 returns-2 c =
     let a = c .before .before .before .before .before .before .before .before .before .before .before .before .before .before .before .before .before .before .args in
     let first = c .before .before .before .before .before .before .before .before .before .before .before .before .before .share-first .ensures in
-    both-shares (a .letter) (a .extra) (linesOf (a .lines .now)) _ _ first _ _ (c .before .before .before .before .before .before .before .some-taker .ensures) (c .before .before .before .before .share-out .ensures .0)
+    both-shares (a .letter) (a .extra) (linesOf (a .lines .now)) _ _ first _ _ (c .before .before .before .before .before .before .before .some-taker .ensures) (c .before .before .before .before .share-rest .ensures)
 
 pub share-extra-spec : {M : Type 1} → statement M
 share-extra-spec =
@@ -54,7 +54,7 @@ share-extra-spec =
     same-length-2
     returns
     some-taker-requires
-    share-out-requires
+    share-rest-requires
     same-length-3
     same-length-4
     returns-2)

@@ -12,8 +12,8 @@ load-first-requires c κs = search needs
 run-rounds-requires : tie.Need-run-rounds-requires
 run-rounds-requires c κs = search needs
 
-collect-first-requires : tie.Need-collect-first-requires
-collect-first-requires c κs = search needs
+take-off-requires : tie.Need-take-off-requires
+take-off-requires c κs = search needs
 
 same-length : tie.Need-same-length
 same-length c = search needs
@@ -25,7 +25,7 @@ returns : tie.Need-returns
 returns c =
     let a = c .before .before .before .before .before .before .before .before .before .before .before .before .before .before .before .before .before .before .args in
     let loaded = c .before .before .before .before .before .before .before .before .before .before .before .before .before .load-first .ensures in
-    first-shared (letterOf (a .letter)) (a .dots) (linesOf (a .lines .now)) _ _ _ _ _ _ (loaded .0) (loaded .1) (c .before .before .before .before .before .before .before .run-rounds .ensures) (c .before .before .collect-first .ensures)
+    first-shared (letterOf (a .letter)) (a .dots) (linesOf (a .lines .now)) _ _ _ _ _ _ (loaded .0) (loaded .1) (c .before .before .before .before .before .before .before .run-rounds .ensures) (c .before .before .take-off .ensures)
 
 pub share-first-spec : {M : Type 1} → statement M
 share-first-spec =
@@ -33,7 +33,7 @@ share-first-spec =
     (tie.spec
     load-first-requires
     run-rounds-requires
-    collect-first-requires
+    take-off-requires
     same-length
     same-length-2
     returns)

@@ -102,6 +102,7 @@ share-extra-requires c κs =
       length-take-le (i .span) (a .args .rests .now) (omega (arith, a .pre .5 .within, a .pre .3)) ∙ sym on,
       between-few (i .start) (i .span) (a .args .lines .now) (a .pre .5 .within) (a .pre .0),
       extra-few (a .args .lines .now) i (a .args .letter) (a .args .constraint) _ _ (a .pre .5) (c .before .before .before .before .before .extra .ensures),
+      between-fits (i .start) (i .span) (a .args .lines .now) (a .pre .4),
     )
 
 slice-reshare-prefix-lay-over : tie.Need-slice-reshare-prefix-lay-over

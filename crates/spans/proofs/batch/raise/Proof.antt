@@ -1,11 +1,13 @@
--- `raise` plans a letter over its batch and applies it, unless nothing was planned and the lines are calm. Assumes nothing.
+-- `raise` plans a letter over its batch and applies it, unless that would change nothing. Assumes nothing.
 use borrow.Author.Needs.{needs}
 use Rattle.spans.proofs.batch.raise.Statement.{statement}
-use mathlib.Core.Path.{ap, _∙_}
-use mathlib.Core.Bool.{true≢false}
+use mathlib.Core.Path.{sym, ap, _∙_}
+use mathlib.Core.Bool.{Bool, _&&_, true≢false}
 use borrow.Author.Tests.{not-true}
 use lib.ListN.{length, length-replicate}
+use Rattle.lines.specs.Rows.{linesOf}
 use Rattle.spans.proofs.Parts.{or-neither}
+use Rattle.spans.proofs.Calm.{lines-stay}
 use Rattle.spans.proofs.Planned.{sums-long}
 use Rattle.spans.proofs.Raised.{length-planned, planned-fit, raised-is, not-raised}
 use Rattle.spans.proofs.batch.raise.Tie as tie
@@ -15,6 +17,9 @@ plan-batch-requires c κs =
     let s = c .before .before .before .before .before .before .before .before .before in
     let w = s .pre .0 in
     (w .few, ap length (w .none) ∙ length-replicate _ _, w .gains-long, w .rests-long, w .fit, s .pre .1, w .totals)
+
+settles-requires : tie.Need-settles-requires
+settles-requires c κs = search needs
 
 same-length : tie.Need-same-length
 same-length c = search needs
@@ -33,27 +38,27 @@ same-length-5 c = search needs
 
 returns : tie.Need-returns
 returns c =
-    let s = c .before .before .before .before .before .before .before .before .before .before .before .before .before .before .before .before .before in
+    let s = c .before .before .before .before .before .before .before .before .before .before .before .before .before .before .before .before .before .before in
     let w = s .pre .0 in
     let a = s .args in
-    let planned = c .before .before .before .before .before .before .before .plan-batch .ensures in
+    let planned = c .before .before .before .before .before .before .before .before .plan-batch .ensures in
     let off = or-neither _ _ (not-true _ (c .if1 .taken)) in
-    let calm = s .pre .2 (off .0) in
-    (not-raised (a .letter) (a .constraint) _ (a .lines .now) (a .increases .now) _ (w .none) (planned .0) (planned .1 (off .1)) calm, w .fit, planned .1 (off .1) ∙ w .none, w .totals, λ _. calm)
+    let stay = lines-stay (a .letter) (a .moved) (linesOf (a .lines .now)) (ap (λ (b : Bool). a .moved && b) (sym (c .before .settles .ensures)) ∙ off .1) (s .pre .2) in
+    (not-raised (a .letter) (a .constraint) _ (a .lines .now) (a .increases .now) _ (w .none) (planned .0) (planned .1 (off .0)) stay, w .fit, planned .1 (off .0) ∙ w .none, w .totals, s .pre .2)
 
 apply-requires : tie.Need-apply-requires
 apply-requires c κs =
-    let s = c .before .before .before .before .before .before .before .before .before .before .before .before .before .before .before .before .before .before .before in
+    let s = c .before .before .before .before .before .before .before .before .before .before .before .before .before .before .before .before .before .before .before .before in
     let w = s .pre .0 in
     let a = s .args in
-    let planned = c .before .before .before .before .before .before .before .before .before .plan-batch .ensures in (
+    let planned = c .before .before .before .before .before .before .before .before .before .before .plan-batch .ensures in (
       length-planned (a .letter) (a .constraint) _ (a .lines .now) (a .increases .now) _ (w .none) (planned .0),
       planned-fit (a .letter) (a .constraint) _ (a .lines .now) (a .increases .now) _ (w .none) (planned .0) _ (w .fit) (s .pre .1 .fit),
     )
 
 tally-requires : tie.Need-tally-requires
 tally-requires c κs =
-    let s = c .before .before .before .before .before .before .before .before .before .before .before .before .before .before .before .before .before .before .before .before .before .before .before .before .before in
+    let s = c .before .before .before .before .before .before .before .before .before .before .before .before .before .before .before .before .before .before .before .before .before .before .before .before .before .before in
     let w = s .pre .0 in
     let few = w .few in
     let long = sums-long (s .args .lines .now) (s .args .sums .now) (w .totals) in
@@ -76,10 +81,10 @@ same-length-10 c = search needs
 
 returns-2 : tie.Need-returns-2
 returns-2 c =
-    let s = c .before .before .before .before .before .before .before .before .before .before .before .before .before .before .before .before .before .before .before .before .before .before .before .before .before .before .before in
+    let s = c .before .before .before .before .before .before .before .before .before .before .before .before .before .before .before .before .before .before .before .before .before .before .before .before .before .before .before .before in
     let w = s .pre .0 in
     let a = s .args in
-    let planned = c .before .before .before .before .before .before .before .before .before .before .before .before .before .before .before .before .before .plan-batch .ensures in
+    let planned = c .before .before .before .before .before .before .before .before .before .before .before .before .before .before .before .before .before .before .plan-batch .ensures in
     let applied = c .before .before .before .before .before .before .before .apply .ensures in
     let r = raised-is (a .letter) (a .constraint) _ (a .lines .now) (a .increases .now) _ (w .none) (planned .0) _ (w .fit) (s .pre .1 .fit) _ (applied .0) in
     (r .0, r .1, applied .1, c .before .tally .ensures, λ e. absurd (true≢false e))
@@ -89,6 +94,7 @@ raise-spec =
     tie.close
     (tie.spec
     plan-batch-requires
+    settles-requires
     same-length
     same-length-2
     same-length-3

@@ -8,6 +8,7 @@ use lib.ListN.{length, replicate, length-replicate}
 use Rattle.lines.specs.Rows.{linesOf}
 use Rattle.lines.specs.Chains.{chained}
 use Rattle.spans.specs.Work.{Working, Calm, letterSteps}
+use Rattle.spans.proofs.Calm.{still-calm}
 use Rattle.spans.proofs.Planned.{sums-long}
 use Rattle.spans.proofs.Raised.{steps-more, working-after, chain-fits-as}
 use Rattle.spans.proofs.batch.raise_all.Tie as tie
@@ -32,8 +33,9 @@ loop-holds c =
 raise-at-requires : tie.Need-raise-at-requires Inv-loop μ-loop
 raise-at-requires c κs =
     let s = c .before .before .before .before .before .before .before .before .before .before .before in
+    let a = s .args in
     let h = c .before .before .before .before .before .before .loop in
-    (h .inv .0, chain-fits-as (s .args .items .now) (s .args .nexts .now) (s .args .first) (h .inv .1) (s .pre .1), h .inv .4)
+    (h .inv .0, chain-fits-as (s .args .items .now) (s .args .nexts .now) (s .args .first) (h .inv .1) (s .pre .1), still-calm (a .constraint) (chained (a .items .now) (a .nexts .now) (a .first)) (linesOf (a .lines .now)) (linesOf (h .lines)) (h .k) (h .moved) (s .pre .2) (h .inv .3) (h .inv .4))
 
 add-k : tie.Need-add-k Inv-loop μ-loop
 add-k c = search needs

@@ -1,7 +1,6 @@
--- `collect_first` takes each rest from its gain, front to back: the gains written, and those still to come, are all. Assumes
--- nothing.
+-- `take_off` takes each rest from its gain, front to back: the gains written, and those still to come, are all. Assumes nothing.
 use borrow.Author.Needs.{needs}
-use Rattle.letters.proofs.share.collect_first.Statement.{statement}
+use Rattle.letters.proofs.share.take_off.Statement.{statement}
 use mathlib.Core.Path.{_≡_, refl}
 use mathlib.Core.List.{_++_}
 use Prim.Native.Nat.{_+_, _-_, _≤_, zero-le}
@@ -9,7 +8,7 @@ use lib.ListN.{length, take, drop, length-set}
 use Rattle.laws.specs.Walk.{store-step, store-end}
 use Rattle.fill.specs.Rests.{lost}
 use Rattle.letters.proofs.ShareSteps.{lostFrom, lost-step, lost-nil}
-use Rattle.letters.proofs.share.collect_first.Tie as tie
+use Rattle.letters.proofs.share.take_off.Tie as tie
 
 abbrev Inv-loop : tie.InvT-loop
 Inv-loop rests gains₀ i₀ gains i =
@@ -67,8 +66,8 @@ returns c =
     let h = c .before .loop in
     store-end (h .gains) (h .i) (lostFrom (a .rests .now) (h .i)) _ (search needs) (lost-nil (a .rests .now) (h .i)) (h .inv .2)
 
-pub collect-first-spec : {M : Type 1} → statement M
-collect-first-spec =
+pub take-off-spec : {M : Type 1} → statement M
+take-off-spec =
     tie.close
     (tie.spec
     Inv-loop

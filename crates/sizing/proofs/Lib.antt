@@ -7,8 +7,7 @@ pub mod Difference
 pub mod Bases
 pub mod Filled
 pub mod FreeFits
--- steps 1 to 4, steps 6 and 7, and the whole
-pub mod Contents
+-- steps 6 and 7, and the whole
 pub mod Finished
 pub mod Sized
 -- as many places as tracks

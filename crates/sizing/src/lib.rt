@@ -1,12 +1,12 @@
 // The sizing of a board without fault, step after step (lines/specs/Rule.antt is the rule). Its one function is for the board:
 // it asks what the checks have made sure of.
-mod content;
 mod dots;
 mod finish;
 mod free;
 
 use chains::BATCHES;
 use chains::LAST;
+use content::FEW;
 use content::content;
 use dots::maximise;
 use finish::finish;
@@ -23,9 +23,6 @@ pub struct Sizes {
     pub free: Free,
     pub rounds: u32,
 }
-
-// So many tracks and items at most work in a small store, which is cleared sooner.
-pub(crate) const FEW: usize = 64;
 
 // Base and limit of each track go to its place.
 pub fn size(space: Space, tracks: &[[u32; 4]], items: &[[u32; 7]], places: &mut [[u32; 2]]) -> Sizes

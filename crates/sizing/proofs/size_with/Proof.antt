@@ -13,7 +13,7 @@ use Rattle.lines.specs.Chains.{chained}
 use Rattle.letters.proofs.Shared.{zeros-as}
 use Rattle.chains.proofs.Batches.{gathered-fits, gathered-last}
 use Rattle.spans.proofs.Raised.{chain-fits-as}
-use Rattle.sizing.proofs.Contents.{items-fit-as}
+use Rattle.content.proofs.Contents.{items-fit-as}
 use Rattle.sizing.proofs.Sized.{bases-fit, maximised-fit, sized}
 use Rattle.sizing.proofs.size_with.Tie as tie
 

@@ -1,6 +1,6 @@
 -- `content` prepares the lines and spreads the longer spans. Assumes nothing.
 use borrow.Author.Needs.{needs}
-use Rattle.sizing.proofs.content.content.Statement.{statement}
+use Rattle.content.proofs.content.Statement.{statement}
 use mathlib.Core.Path.{_≡_, refl, sym, _∙_, subst}
 use mathlib.Core.List.{map}
 use Prim.Native.Nat.{_≤_}
@@ -12,8 +12,8 @@ use Rattle.chains.proofs.Batches.{gathered-fits, gathered-whole}
 use Rattle.spans.specs.Work.{Calm}
 use Rattle.spans.proofs.Calm.{singles-calm}
 use Rattle.spans.proofs.Raised.{chain-fits-as}
-use Rattle.sizing.proofs.Contents.{items-fit-as, content-made}
-use Rattle.sizing.proofs.content.content.Tie as tie
+use Rattle.content.proofs.Contents.{items-fit-as, content-made}
+use Rattle.content.proofs.content.Tie as tie
 
 prepare-requires : tie.Need-prepare-requires
 prepare-requires c κs = search needs

@@ -1,5 +1,5 @@
-// Steps 1 to 4: the sizes that content asks.
-use crate::FEW;
+// Steps 1 to 4 of the sizing: the sizes that content asks (lines/specs/Rule.antt is the rule). Its one call is for the sizing and says what
+// it asks.
 use chains::LAST;
 use chains::gather;
 use kinds::Constraint;
@@ -25,6 +25,9 @@ ghost use Rattle.lines.specs.Chains.{chained, ChainFits, Whole};
 ghost use Rattle.chains.specs.Batches.{Gathered};
 ghost use Rattle.letters.specs.Totals.{tallied};
 ghost use Rattle.spans.specs.Work.{Working, Calm};
+
+// So many tracks, or items, at most work in a small store, which is cleared sooner.
+pub const FEW: usize = 64;
 
 // A total before each line and one behind the last.
 const FEW_TOTALS: usize = 65;
@@ -183,7 +186,7 @@ fn spread_with(
 }
 
 // The increases are all 0 before and after.
-pub(crate) fn content(
+pub fn content(
     constraint: Constraint,
     tracks: &[[u32; 4]],
     items: &[[u32; 7]],

@@ -1,6 +1,6 @@
 -- `prepare` starts the lines, gathers the batches and takes the items in one track. Assumes nothing.
 use borrow.Author.Needs.{needs}
-use Rattle.sizing.proofs.content.prepare.Statement.{statement}
+use Rattle.content.proofs.prepare.Statement.{statement}
 use mathlib.Core.Path.{sym, subst}
 use mathlib.Core.List.{map}
 use Prim.Native.Nat.{_≤_}
@@ -11,8 +11,8 @@ use Rattle.lines.specs.Fits.{LinesFit}
 use Rattle.lines.proofs.Fits.{start-fits}
 use Rattle.chains.proofs.Batches.{gathered-fits}
 use Rattle.spans.proofs.Raised.{chain-fits-as}
-use Rattle.sizing.proofs.Contents.{items-fit-as, prepared}
-use Rattle.sizing.proofs.content.prepare.Tie as tie
+use Rattle.content.proofs.Contents.{items-fit-as, prepared}
+use Rattle.content.proofs.prepare.Tie as tie
 
 start-requires : tie.Need-start-requires
 start-requires c κs = search needs

@@ -1,13 +1,13 @@
 -- `spread_with` makes the totals, then takes the longer spans, the last batch and the missing limits. Assumes nothing.
 use borrow.Author.Needs.{needs}
-use Rattle.sizing.proofs.content.spread_with.Statement.{statement}
+use Rattle.content.proofs.spread_with.Statement.{statement}
 use native.Mathlib.Omega.{arith}
 use lib.ListN.{length, getD}
 use Rattle.lines.specs.Chains.{chained}
 use Rattle.letters.proofs.Shared.{zeros-as}
 use Rattle.spans.proofs.Raised.{working-after, chain-fits-as}
-use Rattle.sizing.proofs.Contents.{spread-made}
-use Rattle.sizing.proofs.content.spread_with.Tie as tie
+use Rattle.content.proofs.Contents.{spread-made}
+use Rattle.content.proofs.spread_with.Tie as tie
 
 tally-requires : tie.Need-tally-requires
 tally-requires c κs = search needs

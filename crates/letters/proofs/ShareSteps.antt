@@ -9,27 +9,29 @@ use Rattle.laws.specs.Walk.{next}
 use Rattle.fill.specs.Rule as fill
 use Rattle.fill.specs.Rests.{capOf, caps, lost}
 use Rattle.kinds.specs.Kinds.{Row}
-use Rattle.lines.specs.Rule.{firstTrack}
+use Rattle.lines.specs.declared.line.Line.{Line}
 use Rattle.lines.specs.Rule as rule
 use Rattle.lines.specs.Rows.{lineOf, linesOf}
 use Rattle.letters.specs.declared.share.Share.{Share}
 use Rattle.letters.specs.Shares.{shareTrack, shareTracks, restOf, restTracks}
 use Rattle.letters.proofs.Steps.{linesFrom, lines-next, lines-end}
 
+-- ---- a share that does not read the gains
+
+module _ (track : Line → fill.Track) (dots : ℕ) (rows : List Row) where
+  -- the caps of the lines' tracks from the place i on
+  abbrev pub capsFrom : ℕ → List ℕ
+  capsFrom i = caps dots (map track (linesFrom rows i))
+
+  pub caps-step : (i v : ℕ) → i < length rows → v ≡ capOf dots (track (lineOf (getD rows i []))) → capsFrom i ≡ v ∷ capsFrom (i + 1)
+  unfolding caps
+  caps-step i v h e = rw (lines-next rows i h, e) refl
+
+  pub caps-end : (i : ℕ) → length rows ≤ i → capsFrom i ≡ []
+  unfolding caps
+  caps-end i h = rw (lines-end rows i h) refl
+
 module _ (share : Share) (dots : ℕ) (rows : List Row) where
-  -- the tracks of a share from the place i on
-  abbrev pub tracksFrom : List ℕ → ℕ → List fill.Track
-  tracksFrom gains i = shareTracks share (linesFrom rows i) (drop i gains)
-
-  pub caps-step : (gains : List ℕ) (i v : ℕ) → i < length rows → i < length gains → v ≡ capOf dots (shareTrack share (lineOf (getD rows i [])) (getD gains i 0))
-      → caps dots (tracksFrom gains i) ≡ v ∷ caps dots (tracksFrom gains (i + 1))
-  unfolding caps shareTracks zipWith
-  caps-step gains i v h g e = rw (lines-next rows i h, next gains i 0 g, e) refl
-
-  pub caps-end : (gains : List ℕ) (i : ℕ) → length rows ≤ i → caps dots (tracksFrom gains i) ≡ []
-  unfolding caps shareTracks zipWith
-  caps-end gains i h = rw (lines-end rows i h) refl
-
   -- what is gained from the place i on
   abbrev pub gainedFrom : List ℕ → ℕ → List ℕ → List ℕ
   gainedFrom rests i gains = zipWith _+_ gains (lost (caps dots (shareTracks share (linesFrom rows i) gains)) (drop i rests))
@@ -52,22 +54,6 @@ lost-at share dots (row ∷ rows) [] rests i h g r = absurd (not-suc-le-zero g)
 lost-at share dots (row ∷ rows) (x ∷ gains) [] i h g r = absurd (not-suc-le-zero r)
 lost-at share dots (row ∷ rows) (x ∷ gains) (y ∷ rests) zero h g r = refl
 lost-at share dots (row ∷ rows) (x ∷ gains) (y ∷ rests) (suc i) h g r = lost-at share dots rows gains rests i (le-of-suc-le-suc h) (le-of-suc-le-suc g) (le-of-suc-le-suc r)
-
--- ---- the first share of a letter
-
-module _ (letter : rule.Letter) (dots : ℕ) (rows : List Row) where
-  -- the caps from the place i on
-  abbrev pub firstCapsFrom : ℕ → List ℕ
-  firstCapsFrom i = caps dots (map (firstTrack letter) (linesFrom rows i))
-
-  pub first-caps-step : (i v : ℕ) → i < length rows → v ≡ capOf dots (firstTrack letter (lineOf (getD rows i [])))
-      → firstCapsFrom i ≡ v ∷ firstCapsFrom (i + 1)
-  unfolding caps
-  first-caps-step i v h e = rw (lines-next rows i h, e) refl
-
-  pub first-caps-end : (i : ℕ) → length rows ≤ i → firstCapsFrom i ≡ []
-  unfolding caps
-  first-caps-end i h = rw (lines-end rows i h) refl
 
 -- ---- what remains
 

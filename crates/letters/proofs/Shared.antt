@@ -33,7 +33,7 @@ use Rattle.letters.specs.declared.letter.Letter.the-variants.{A, B, C, D
 use Rattle.letters.specs.declared.share.Share.{Share}
 use Rattle.letters.specs.declared.share.Share.the-variants.{Maximise, Stretch}
 use Rattle.letters.specs.Letters.{letterOf, most}
-use Rattle.letters.specs.Shares.{shareTrack, shareTracks, isTaker, restOf, restTracks}
+use Rattle.letters.specs.Shares.{trackIn, shareTrack, shareTracks, isTaker, restOf, restTracks}
 
 -- ---- tracks before their first round
 
@@ -50,6 +50,18 @@ share-gain Stretch l g = refl
 pub share-fresh : (share : Share) (ls : List Line) (gains : List ℕ) → Fresh (shareTracks share ls gains)
 unfolding shareTracks
 share-fresh share ls gains = zip-fresh (shareTrack share) (share-gain share) ls gains
+
+-- each line has its track, whatever its gain
+share-is-map : (share : Share) (ls : List Line) (gains : List ℕ) → length gains ≡ length ls → shareTracks share ls gains ≡ map (trackIn share) ls
+unfolding shareTracks zipWith
+share-is-map share [] gains e = refl
+share-is-map share (l ∷ ls) [] e = absurd (omega arith)
+share-is-map share (l ∷ ls) (g ∷ gains) e = ap (trackIn share l ∷_) (share-is-map share ls gains (omega arith))
+
+-- so the caps of the lines are those of the share
+pub share-caps : (share : Share) (dots : ℕ) (rows : List Row) (gains rs : List ℕ) → length gains ≡ length rows
+    → rs ≡ caps dots (map (trackIn share) (linesOf rows)) → rs ≡ caps dots (shareTracks share (linesOf rows) gains)
+share-caps share dots rows gains rs long loaded = loaded ∙ ap (caps dots) (sym (share-is-map share (linesOf rows) gains (long ∙ sym (length-map rows lineOf))))
 
 -- ---- one share: the rests rs are loaded, the rounds leave xs of them, and what they lost is gained
 

@@ -20,9 +20,13 @@ restOf letter narrow l gain = inFill (letter .affected l && (letter .takes l || 
 unfoldable pub restTracks : rule.Letter → Bool → List Line → List ℕ → List fill.Track
 restTracks letter narrow ls gains = zipWith (restOf letter narrow) ls gains
 
+abbrev pub trackIn : Share → Line → fill.Track
+trackIn Maximise l = maximiseTrack l
+trackIn Stretch l = stretchTrack l
+
+-- whatever gain the line has
 abbrev pub shareTrack : Share → Line → ℕ → fill.Track
-shareTrack Maximise l gain = maximiseTrack l
-shareTrack Stretch l gain = stretchTrack l
+shareTrack share l gain = trackIn share l
 
 unfoldable pub shareTracks : Share → List Line → List ℕ → List fill.Track
 shareTracks share ls gains = zipWith (shareTrack share) ls gains

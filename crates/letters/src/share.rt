@@ -19,7 +19,7 @@ ghost use Rattle.lines.specs.Rule.{maxIn, firstTrack, moreGains, shares};
 ghost use Rattle.lines.specs.Rows.{linesOf, roomOf};
 ghost use Rattle.lines.specs.Fits.{LinesFit};
 ghost use Rattle.letters.specs.Letters.{letterOf, most};
-ghost use Rattle.letters.specs.Shares.{shareTrack, shareTracks, isTaker, restTracks};
+ghost use Rattle.letters.specs.Shares.{trackIn, shareTracks, isTaker, restTracks};
 
 // What is shared out beside the letters: the dots of step 5, or those of step 7.
 pub enum Share {
@@ -67,8 +67,8 @@ fn is_auto(line: Line) -> bool
 
 impl Share {
     // The most that a line can take of the dots.
-    fn cap(self, line: Line, gain: u32, dots: u32) -> u32
-        ensures { λ r. ⌜ r ≡ capOf dots (shareTrack self line gain) ⌝ }
+    fn cap(self, line: Line, dots: u32) -> u32
+        ensures { λ r. ⌜ r ≡ capOf dots (trackIn self line) ⌝ }
     {
         match self {
             Share::Maximise => cap_of(true, line.base_room(), dots),
@@ -77,13 +77,13 @@ impl Share {
     }
 }
 
-fn load(share: Share, dots: u32, lines: &[[u32; 8]], gains: &[u32], rests: &mut [u32])
-    requires { ⌜ (length (now gains) ≡ length (now lines)) × (length (now rests) ≡ length (now lines)) ⌝ }
-    ensures { λ _. ⌜ now (rests .exit) ≡ caps dots (shareTracks share (linesOf (now (lines .entry))) (now (gains .entry))) ⌝ }
+fn load(share: Share, dots: u32, lines: &[[u32; 8]], rests: &mut [u32])
+    requires { ⌜ length (now rests) ≡ length (now lines) ⌝ }
+    ensures { λ _. ⌜ now (rests .exit) ≡ caps dots (map (trackIn share) (linesOf (now (lines .entry)))) ⌝ }
 {
     let mut i = 0;
     while i < rests.len() {
-        rests[i] = share.cap(Line::of_row(lines[i]), gains[i], dots);
+        rests[i] = share.cap(Line::of_row(lines[i]), dots);
         i += 1;
     }
 }
@@ -96,7 +96,7 @@ fn collect(share: Share, dots: u32, lines: &[[u32; 8]], rests: &[u32], gains: &m
     let mut i = 0;
     while i < gains.len() {
         let gain = gains[i];
-        let cap = share.cap(Line::of_row(lines[i]), gain, dots);
+        let cap = share.cap(Line::of_row(lines[i]), dots);
         gains[i] = gain + less(cap, rests[i]);
         i += 1;
     }
@@ -113,7 +113,7 @@ pub fn share_out(
     requires { ⌜ (length (now gains) ≡ length (now lines)) × (length (now rests) ≡ length (now lines)) × (length (now lines) ≤ mostTracks) × (dots ≤ mostDots) × ((i : ℕ) → getD (now gains) i 0 ≤ mostDots) ⌝ }
     ensures { λ r. ⌜ (now (gains .exit) ≡ moreGains (now (gains .entry)) (fill dots (shareTracks share (linesOf (now (lines .entry))) (now (gains .entry))))) × (r .left ≡ fill dots (shareTracks share (linesOf (now (lines .entry))) (now (gains .entry))) .left) × (r .rounds ≡ fill dots (shareTracks share (linesOf (now (lines .entry))) (now (gains .entry))) .rounds) ⌝ }
 {
-    load(share, dots, lines, gains, rests);
+    load(share, dots, lines, rests);
     let done = run_rounds(dots, rests);
     collect(share, dots, lines, rests, gains);
     done

@@ -4,21 +4,20 @@ use Rattle.letters.proofs.share.load.Statement.{statement}
 use mathlib.Core.Path.{_≡_, refl, ap, _∙_}
 use mathlib.Core.List.{List, _++_}
 use Prim.Native.Nat.{ℕ, _+_, _-_, _≤_, zero-le}
-use lib.ListN.{length, getD, take, length-set}
+use lib.ListN.{length, take, length-set}
 use Rattle.laws.specs.Walk.{store-step, store-end}
-use Rattle.fill.specs.Rests.{capOf, caps}
+use Rattle.fill.specs.Rests.{capOf}
 use Rattle.lines.specs.declared.line.Line.{Line}
-use Rattle.lines.specs.Rows.{linesOf}
-use Rattle.letters.specs.Shares.{shareTrack, shareTracks}
-use Rattle.letters.proofs.ShareSteps.{tracksFrom, caps-step, caps-end}
+use Rattle.letters.specs.Shares.{trackIn}
+use Rattle.letters.proofs.ShareSteps.{capsFrom, caps-step, caps-end}
 use Rattle.letters.proofs.share.load.Tie as tie
 
 abbrev Inv-loop : tie.InvT-loop
-Inv-loop share dots lines gains rests₀ i₀ rests i =
-    (i ≤ length rests₀) × (length rests ≡ length rests₀) × (take i rests ++ caps dots (tracksFrom share dots lines gains i) ≡ caps dots (shareTracks share (linesOf lines) gains))
+Inv-loop share dots lines rests₀ i₀ rests i =
+    (i ≤ length rests₀) × (length rests ≡ length rests₀) × (take i rests ++ capsFrom (trackIn share) dots lines i ≡ capsFrom (trackIn share) dots lines 0)
 
 abbrev μ-loop : tie.MeasureT-loop
-μ-loop share dots lines gains rests₀ i₀ rests i = length rests₀ - i
+μ-loop share dots lines rests₀ i₀ rests i = length rests₀ - i
 
 loop-holds : tie.Need-loop-holds Inv-loop μ-loop
 loop-holds c = (zero-le, refl, refl)
@@ -31,12 +30,6 @@ shared-slice-copy-out-of-row c = search needs
 
 of-row-requires : tie.Need-of-row-requires Inv-loop μ-loop
 of-row-requires c κs = search needs
-
-mul-cap : tie.Need-mul-cap Inv-loop μ-loop
-mul-cap c = search needs
-
-shared-slice-read-cap : tie.Need-shared-slice-read-cap Inv-loop μ-loop
-shared-slice-read-cap c = search needs
 
 cap-requires : tie.Need-cap-requires Inv-loop μ-loop
 cap-requires c κs = search needs
@@ -55,14 +48,14 @@ loop-less c = search needs
 
 loop-again : tie.Need-loop-again Inv-loop μ-loop
 loop-again c =
-    let a = c .before .before .before .before .before .before .before .before .args in
-    let h = c .before .before .before .before .before .loop in
-    let from = tracksFrom (a .share) (a .dots) (a .lines .now) (a .gains .now) in
-    let one = c .cap .ensures ∙ ap (λ (l : Line). capOf (a .dots) (shareTrack (a .share) l (getD (a .gains .now) (h .i) 0))) (c .before .before .of-row .ensures) in (
+    let a = c .before .before .before .before .before .before .args in
+    let h = c .before .before .before .before .loop in
+    let from = capsFrom (trackIn (a .share)) (a .dots) (a .lines .now) in
+    let one = c .cap .ensures ∙ ap (λ (l : Line). capOf (a .dots) (trackIn (a .share) l)) (c .before .of-row .ensures) in (
       search needs,
       simp length-set (h .inv .1),
-      store-step (h .rests) (h .i) (λ (_ : List ℕ). caps (a .dots) (from (h .i))) (λ (_ : List ℕ). caps (a .dots) (from (h .i + 1))) _ 0 _ (search needs)
-          (caps-step (a .share) (a .dots) (a .lines .now) (a .gains .now) (h .i) _ (search needs) (search needs) one) (h .inv .2),
+      store-step (h .rests) (h .i) (λ (_ : List ℕ). from (h .i)) (λ (_ : List ℕ). from (h .i + 1)) _ 0 _ (search needs)
+          (caps-step (trackIn (a .share)) (a .dots) (a .lines .now) (h .i) _ (search needs) one) (h .inv .2),
     )
 
 same-length : tie.Need-same-length Inv-loop μ-loop
@@ -70,10 +63,10 @@ same-length c = search needs
 
 returns : tie.Need-returns Inv-loop μ-loop
 returns c =
-    let a = c .before .before .before .before .args in
+    let a = c .before .before .before .args in
     let h = c .before .loop in
-    store-end (h .rests) (h .i) (λ (_ : List ℕ). caps (a .dots) (tracksFrom (a .share) (a .dots) (a .lines .now) (a .gains .now) (h .i))) _ (search needs)
-    (caps-end (a .share) (a .dots) (a .lines .now) (a .gains .now) (h .i) (search needs)) (h .inv .2)
+    store-end (h .rests) (h .i) (λ (_ : List ℕ). capsFrom (trackIn (a .share)) (a .dots) (a .lines .now) (h .i)) _ (search needs)
+    (caps-end (trackIn (a .share)) (a .dots) (a .lines .now) (h .i) (search needs)) (h .inv .2)
 
 pub load-spec : {M : Type 1} → statement M
 load-spec =
@@ -85,8 +78,6 @@ load-spec =
     mul-of-row
     shared-slice-copy-out-of-row
     of-row-requires
-    mul-cap
-    shared-slice-read-cap
     cap-requires
     mul-rests
     slice-write-rests

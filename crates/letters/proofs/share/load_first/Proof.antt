@@ -13,7 +13,7 @@ use Rattle.fill.specs.Rests.{capIn, capOf}
 use Rattle.lines.specs.declared.line.Line.{Line}
 use Rattle.lines.specs.Rule.{firstTrack}
 use Rattle.letters.specs.Letters.{letterOf}
-use Rattle.letters.proofs.ShareSteps.{firstCapsFrom, first-caps-step, first-caps-end}
+use Rattle.letters.proofs.ShareSteps.{capsFrom, caps-step, caps-end}
 use Rattle.letters.proofs.share.load_first.Tie as tie
 
 abbrev Inv-loop : tie.InvT-loop
@@ -21,8 +21,8 @@ Inv-loop letter dots lines gains₀ rests₀ i₀ gains rests i =
     (i ≤ length lines)
     × (length gains ≡ length gains₀)
     × (length rests ≡ length rests₀)
-    × (take i gains ++ firstCapsFrom (letterOf letter) dots lines i ≡ firstCapsFrom (letterOf letter) dots lines 0)
-    × (take i rests ++ firstCapsFrom (letterOf letter) dots lines i ≡ firstCapsFrom (letterOf letter) dots lines 0)
+    × (take i gains ++ capsFrom (firstTrack (letterOf letter)) dots lines i ≡ capsFrom (firstTrack (letterOf letter)) dots lines 0)
+    × (take i rests ++ capsFrom (firstTrack (letterOf letter)) dots lines i ≡ capsFrom (firstTrack (letterOf letter)) dots lines 0)
 
 abbrev μ-loop : tie.MeasureT-loop
 μ-loop letter dots lines gains₀ rests₀ i₀ gains rests i = length lines - i
@@ -70,12 +70,12 @@ loop-again : tie.Need-loop-again Inv-loop μ-loop
 loop-again c =
     let a = c .before .before .before .before .before .before .before .before .before .args in
     let h = c .before .before .before .before .before .before .loop in
-    let from = firstCapsFrom (letterOf (a .letter)) (a .dots) (a .lines .now) in
+    let from = capsFrom (firstTrack (letterOf (a .letter))) (a .dots) (a .lines .now) in
     let one =
     c .cap-of .ensures
     ∙ ap₂ (λ (affected : Bool) (room : Room). cond affected (capIn (a .dots) room) 0) (c .before .before .affected .ensures) (c .before .room .ensures)
     ∙ ap (λ (l : Line). capOf (a .dots) (firstTrack (letterOf (a .letter)) l)) (c .before .before .before .of-row .ensures) in
-    let turn = first-caps-step (letterOf (a .letter)) (a .dots) (a .lines .now) (h .i) _ (search needs) one in (
+    let turn = caps-step (firstTrack (letterOf (a .letter))) (a .dots) (a .lines .now) (h .i) _ (search needs) one in (
       search needs,
       simp length-set (h .inv .1),
       simp length-set (h .inv .2),
@@ -93,8 +93,8 @@ returns : tie.Need-returns Inv-loop μ-loop
 returns c =
     let a = c .before .before .before .before .args in
     let h = c .before .loop in
-    let from = firstCapsFrom (letterOf (a .letter)) (a .dots) (a .lines .now) in
-    let all = first-caps-end (letterOf (a .letter)) (a .dots) (a .lines .now) (h .i) (search needs) in (
+    let from = capsFrom (firstTrack (letterOf (a .letter))) (a .dots) (a .lines .now) in
+    let all = caps-end (firstTrack (letterOf (a .letter))) (a .dots) (a .lines .now) (h .i) (search needs) in (
       store-end (h .gains) (h .i) (λ (_ : List ℕ). from (h .i)) _ (search needs) all (h .inv .3),
       store-end (h .rests) (h .i) (λ (_ : List ℕ). from (h .i)) _ (search needs) all (h .inv .4),
     )

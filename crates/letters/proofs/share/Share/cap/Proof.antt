@@ -6,7 +6,7 @@ use mathlib.Core.Bool.{Bool, cond}
 use Rattle.fill.specs.Rule.{Room}
 use Rattle.fill.specs.Rests.{capIn, capOf}
 use Rattle.letters.specs.declared.share.Share.{Share}
-use Rattle.letters.specs.Shares.{shareTrack}
+use Rattle.letters.specs.Shares.{trackIn}
 use Rattle.letters.proofs.share.Share.cap.Tie as tie
 
 enum-told : tie.Need-enum-told
@@ -32,14 +32,14 @@ returns c =
     let a = c .before .before .before .before .args in
     c .cap-of .ensures
     ∙ ap (λ (room : Room). capIn (a .dots) room) (c .before .base-room .ensures)
-    ∙ ap (λ (s : Share). capOf (a .dots) (shareTrack s (a .line) (a .gain))) (sym (c .before .before .enum-told .given .1))
+    ∙ ap (λ (s : Share). capOf (a .dots) (trackIn s (a .line))) (sym (c .before .before .enum-told .given .1))
 
 returns-2 : tie.Need-returns-2
 returns-2 c =
     let a = c .before .before .before .before .args in
     c .cap-of2 .ensures
     ∙ ap (λ (affected : Bool). cond affected (a .dots) 0) (c .before .is-auto .ensures)
-    ∙ ap (λ (s : Share). capOf (a .dots) (shareTrack s (a .line) (a .gain))) (sym (c .before .before .enum-told2 .given .1))
+    ∙ ap (λ (s : Share). capOf (a .dots) (trackIn s (a .line))) (sym (c .before .before .enum-told2 .given .1))
 
 pub cap-spec : {M : Type 1} → statement M
 cap-spec =

@@ -19,7 +19,7 @@ use Rattle.floats.specs.declared.answer.TracksAnswer.{TracksAnswer}
 use Rattle.floats.specs.declared.answer.TracksAnswer.the-variants as ofTracks
 use Rattle.floats.specs.declared.answer.FlushAnswer.{FlushAnswer}
 use Rattle.floats.specs.declared.answer.FlushAnswer.the-variants as ofFlush
-use Rattle.torrivask.specs.Face.{codeOf, placeAfter, numberAfter, rowAfter, markAfter, gutterFace, maximiseFace, stretchFace}
+use Rattle.torrivask.specs.Face.{numberLeft, numberFace, sharedLeft, sharedFace, tracksLeft, tracksFace, trackLeft, trackFace, markedLeft, markedFace, gutterFace, maximiseFace, stretchFace}
 use Rattle.torrivask.specs.declared.words.SpaceWord.{SpaceWord}
 use Rattle.torrivask.specs.declared.words.SpaceWord.the-variants as space
 use Rattle.torrivask.specs.declared.words.AlignmentWord.{AlignmentWord}
@@ -27,54 +27,54 @@ use Rattle.torrivask.specs.declared.words.AlignmentWord.the-variants as 
 
 -- ---- A number
 
-module _ (answer : NumberAnswer) (told : Told) (is : numberTold answer ≡ told) (place : ℕ) where
-  pub number-writes : (x before : Float) → answer ≡ ofNumber.Number x →
-      (0 ≡ codeOf told) × (x ≡ numberAfter told before) × (place ≡ placeAfter told place)
-  number-writes x before gives = rw (← is, gives) (refl, refl, refl)
+module _ (answer : NumberAnswer) (told : Told) (is : numberTold answer ≡ told) (before : Float) (place : ℕ) where
+  pub number-writes : (x : Float) → answer ≡ ofNumber.Number x → numberLeft 0 x place ≡ numberFace told before place
+  number-writes x gives = rw (← is, gives) refl
 
-  pub number-refused : (refusal : Refusal) (before : Float) (n p : ℕ) → answer ≡ ofNumber.Refused refusal →
-      n ≡ numberOf refusal → p ≡ placeOf refusal →
-      (n ≡ codeOf told) × (before ≡ numberAfter told before) × (p ≡ placeAfter told place)
-  number-refused refusal before n p refuses number at = rw (← is, refuses) (number, refl, at)
+  pub number-refused : (refusal : Refusal) (n p : ℕ) → answer ≡ ofNumber.Refused refusal → n ≡ numberOf refusal → p ≡ placeOf refusal
+      → numberLeft n before p ≡ numberFace told before place
+  number-refused refusal n p refuses number at = rw (← is, refuses, number, at) refl
 
--- ---- A number and tracks
+-- ---- Tracks and a number
 
-module _ (answer : NumberAnswer) (rows : List (List Float)) (call : Outcome) (is : outcome (numberTold answer) rows ≡ call) (place : ℕ) where
-  pub number-and-tracks-write : (x before : Float) → answer ≡ ofNumber.Number x →
-      (0 ≡ codeOf (call .told)) × (rows ≡ call .tracks) × (x ≡ numberAfter (call .told) before)
-      × (place ≡ placeAfter (call .told) place)
-  number-and-tracks-write x before gives = rw (← is, gives) (refl, refl, refl, refl)
+module _ (answer : NumberAnswer) (rows : List (List Float)) (call : Outcome) (is : outcome (numberTold answer) rows ≡ call)
+    (before : Float) (place : ℕ) where
+  pub shared-writes : (x : Float) → answer ≡ ofNumber.Number x → sharedLeft 0 rows x place ≡ sharedFace call before place
+  shared-writes x gives = rw (← is, gives) refl
 
-  pub number-and-tracks-refused : (refusal : Refusal) (before : Float) (n p : ℕ) → answer ≡ ofNumber.Refused refusal →
-      n ≡ numberOf refusal → p ≡ placeOf refusal →
-      (n ≡ codeOf (call .told)) × (rows ≡ call .tracks) × (before ≡ numberAfter (call .told) before)
-      × (p ≡ placeAfter (call .told) place)
-  number-and-tracks-refused refusal before n p refuses number at = rw (← is, refuses) (number, refl, refl, at)
+  pub shared-refused : (refusal : Refusal) (n p : ℕ) → answer ≡ ofNumber.Refused refusal → n ≡ numberOf refusal → p ≡ placeOf refusal
+      → sharedLeft n rows before p ≡ sharedFace call before place
+  shared-refused refusal n p refuses number at = rw (← is, refuses, number, at) refl
 
 -- ---- Tracks
 
-module _ (answer : TracksAnswer) (rows : List (List Float)) (call : Outcome) (is : outcome (tracksTold answer) rows ≡ call) (place : ℕ) where
-  pub tracks-write : answer ≡ ofTracks.Sized →
-      (0 ≡ codeOf (call .told)) × (rows ≡ call .tracks) × (place ≡ placeAfter (call .told) place)
-  tracks-write sizes = rw (← is, sizes) (refl, refl, refl)
+module _ (answer : TracksAnswer) (rows : List (List Float)) (call : Outcome) (is : outcome (tracksTold answer) rows ≡ call)
+    (place : ℕ) where
+  pub tracks-write : answer ≡ ofTracks.Sized → tracksLeft 0 rows place ≡ tracksFace call place
+  tracks-write sizes = rw (← is, sizes) refl
 
-  pub tracks-refused : (refusal : Refusal) (n p : ℕ) → answer ≡ ofTracks.Refused refusal →
-      n ≡ numberOf refusal → p ≡ placeOf refusal →
-      (n ≡ codeOf (call .told)) × (rows ≡ call .tracks) × (p ≡ placeAfter (call .told) place)
-  tracks-refused refusal n p refuses number at = rw (← is, refuses) (number, refl, at)
+  pub tracks-refused : (refusal : Refusal) (n p : ℕ) → answer ≡ ofTracks.Refused refusal → n ≡ numberOf refusal → p ≡ placeOf refusal
+      → tracksLeft n rows p ≡ tracksFace call place
+  tracks-refused refusal n p refuses number at = rw (← is, refuses, number, at) refl
 
--- ---- A flushed track
+-- ---- A track
 
-module _ (answer : FlushAnswer) (told : Told) (is : flushTold answer ≡ told) (before : List Float) (mark : Bool) (place : ℕ) where
-  pub flushed-writes : (t : Track) (row : List Float) → answer ≡ ofFlush.Flushed t → row ≡ rowOf t →
-      (0 ≡ codeOf told) × (row ≡ rowAfter told before) × (t .«infinitely_growable» ≡ markAfter told mark)
-      × (place ≡ placeAfter told place)
-  flushed-writes t row flushes row-is = rw (← is, flushes) (refl, row-is, refl, refl)
+module _ (answer : FlushAnswer) (told : Told) (is : flushTold answer ≡ told) (before : List Float) (place : ℕ) where
+  pub track-writes : (t : Track) (row : List Float) → answer ≡ ofFlush.Flushed t → row ≡ rowOf t
+      → trackLeft 0 row place ≡ trackFace told before place
+  track-writes t row flushes row-is = rw (← is, flushes, row-is) refl
 
-  pub flush-refused : (refusal : Refusal) (n p : ℕ) → answer ≡ ofFlush.Refused refusal →
-      n ≡ numberOf refusal → p ≡ placeOf refusal →
-      (n ≡ codeOf told) × (before ≡ rowAfter told before) × (mark ≡ markAfter told mark) × (p ≡ placeAfter told place)
-  flush-refused refusal n p refuses number at = rw (← is, refuses) (number, refl, refl, at)
+  pub track-refused : (refusal : Refusal) (n p : ℕ) → answer ≡ ofFlush.Refused refusal → n ≡ numberOf refusal → p ≡ placeOf refusal
+      → trackLeft n before p ≡ trackFace told before place
+  track-refused refusal n p refuses number at = rw (← is, refuses, number, at) refl
+
+  pub marked-writes : (mark : Bool) (t : Track) (row : List Float) → answer ≡ ofFlush.Flushed t → row ≡ rowOf t
+      → markedLeft 0 row (t .«infinitely_growable») place ≡ markedFace told before mark place
+  marked-writes mark t row flushes row-is = rw (← is, flushes, row-is) refl
+
+  pub marked-refused : (mark : Bool) (refusal : Refusal) (n p : ℕ) → answer ≡ ofFlush.Refused refusal → n ≡ numberOf refusal
+      → p ≡ placeOf refusal → markedLeft n before mark p ≡ markedFace told before mark place
+  marked-refused mark refusal n p refuses number at = rw (← is, refuses, number, at) refl
 
 -- ---- A listed word is the call's own; one that is not is 4 at place 0
 
@@ -84,20 +84,16 @@ module _ (word : AlignmentWord) (asked : OptionalSize) (known : List Bool) (esti
   gutter-listed listed size lists sizes = rw (lists, sizes) refl
 
   pub gutter-unlisted : (before : Float) (place : ℕ) → word ≡ alignment.Unlisted →
-      (4 ≡ codeOf (gutterFace word asked known estimates))
-      × (before ≡ numberAfter (gutterFace word asked known estimates) before)
-      × (0 ≡ placeAfter (gutterFace word asked known estimates) place)
-  gutter-unlisted before place lists = rw lists (refl, refl, refl)
+      numberLeft 4 before 0 ≡ numberFace (gutterFace word asked known estimates) before place
+  gutter-unlisted before place lists = rw lists refl
 
 module _ (rows : List (List Float)) (fits : List Float) (word : SpaceWord) where
   pub maximise-listed : (listed : AvailableSpace) → word ≡ space.Listed listed →
       maximiseCall rows fits listed ≡ maximiseFace rows fits word
   maximise-listed listed lists = rw lists refl
 
-  pub maximise-unlisted : (place : ℕ) → word ≡ space.Unlisted →
-      (4 ≡ codeOf (maximiseFace rows fits word .told)) × (rows ≡ maximiseFace rows fits word .tracks)
-      × (0 ≡ placeAfter (maximiseFace rows fits word .told) place)
-  maximise-unlisted place lists = rw lists (refl, refl, refl)
+  pub maximise-unlisted : (place : ℕ) → word ≡ space.Unlisted → tracksLeft 4 rows 0 ≡ tracksFace (maximiseFace rows fits word) place
+  maximise-unlisted place lists = rw lists refl
 
 module _ (rows : List (List Float)) (autos : List Bool) (asked : OptionalSize) (word : SpaceWord) where
   pub stretch-listed : (listed : AvailableSpace) (size : OptionalSize) → word ≡ space.Listed listed → size ≡ asked →
@@ -105,6 +101,5 @@ module _ (rows : List (List Float)) (autos : List Bool) (asked : OptionalSize) (
   stretch-listed listed size lists sizes = rw (lists, sizes) refl
 
   pub stretch-unlisted : (place : ℕ) → word ≡ space.Unlisted →
-      (4 ≡ codeOf (stretchFace rows autos asked word .told)) × (rows ≡ stretchFace rows autos asked word .tracks)
-      × (0 ≡ placeAfter (stretchFace rows autos asked word .told) place)
-  stretch-unlisted place lists = rw lists (refl, refl, refl)
+      tracksLeft 4 rows 0 ≡ tracksFace (stretchFace rows autos asked word) place
+  stretch-unlisted place lists = rw lists refl

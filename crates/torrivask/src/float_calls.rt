@@ -14,14 +14,14 @@ ghost use mathlib.Core.Bool.{false};
 ghost use Rattle.float_track.specs.Track.{trackOf};
 ghost use Rattle.floats.specs.Rule.{flushBaseCall, flushLimitCall, distributionCall, frCall};
 ghost use Rattle.torrivask.specs.Words.{sizeAs, spaceAs, alignmentAs};
-ghost use Rattle.torrivask.specs.Face.{codeOf, placeAfter, numberAfter, rowAfter, markAfter, gutterFace, maximiseFace, stretchFace};
+ghost use Rattle.torrivask.specs.Face.{trackLeft, trackFace, markedLeft, markedFace, numberLeft, numberFace, sharedLeft, sharedFace, tracksLeft, tracksFace, gutterFace, maximiseFace, stretchFace};
 
 #[no_mangle]
 pub extern "C" fn torrivask_flush_planned_base_size_increases(
     track: &mut [f32; 5],
     place: &mut u64,
 ) -> u32
-    ensures { λ r. ⌜ (r ≡ codeOf (flushBaseCall (trackOf (now (track .entry)) false))) × (now (track .exit) ≡ rowAfter (flushBaseCall (trackOf (now (track .entry)) false)) (now (track .entry))) × (now (place .exit) ≡ placeAfter (flushBaseCall (trackOf (now (track .entry)) false)) (now (place .entry))) ⌝ }
+    ensures { λ r. ⌜ trackLeft r (now (track .exit)) (now (place .exit)) ≡ trackFace (flushBaseCall (trackOf (now (track .entry)) false)) (now (track .entry)) (now (place .entry)) ⌝ }
 {
     let answer = floats::flush_planned_base_size_increases(Track::new(*track, false));
     match answer {
@@ -43,7 +43,7 @@ pub extern "C" fn torrivask_flush_planned_growth_limit_increases(
     mark: bool,
     place: &mut u64,
 ) -> u32
-    ensures { λ r. ⌜ (r ≡ codeOf (flushLimitCall (trackOf (now (track .entry)) (now (growable .entry))) mark)) × (now (track .exit) ≡ rowAfter (flushLimitCall (trackOf (now (track .entry)) (now (growable .entry))) mark) (now (track .entry))) × (now (growable .exit) ≡ markAfter (flushLimitCall (trackOf (now (track .entry)) (now (growable .entry))) mark) (now (growable .entry))) × (now (place .exit) ≡ placeAfter (flushLimitCall (trackOf (now (track .entry)) (now (growable .entry))) mark) (now (place .entry))) ⌝ }
+    ensures { λ r. ⌜ markedLeft r (now (track .exit)) (now (growable .exit)) (now (place .exit)) ≡ markedFace (flushLimitCall (trackOf (now (track .entry)) (now (growable .entry))) mark) (now (track .entry)) (now (growable .entry)) (now (place .entry)) ⌝ }
 {
     let answer = floats::flush_planned_growth_limit_increases(Track::new(*track, *growable), mark);
     match answer {
@@ -69,7 +69,7 @@ pub extern "C" fn torrivask_compute_alignment_gutter_adjustment(
     gutter: &mut f32,
     place: &mut u64,
 ) -> u32
-    ensures { λ r. ⌜ (r ≡ codeOf (gutterFace (alignmentAs alignment) (sizeAs given inner) (now (known .entry)) (now (estimates .entry)))) × (now (gutter .exit) ≡ numberAfter (gutterFace (alignmentAs alignment) (sizeAs given inner) (now (known .entry)) (now (estimates .entry))) (now (gutter .entry))) × (now (place .exit) ≡ placeAfter (gutterFace (alignmentAs alignment) (sizeAs given inner) (now (known .entry)) (now (estimates .entry))) (now (place .entry))) ⌝ }
+    ensures { λ r. ⌜ numberLeft r (now (gutter .exit)) (now (place .exit)) ≡ numberFace (gutterFace (alignmentAs alignment) (sizeAs given inner) (now (known .entry)) (now (estimates .entry))) (now (gutter .entry)) (now (place .entry)) ⌝ }
 {
     let word = alignment_of(alignment);
     let size = size_of(given, inner);
@@ -110,7 +110,7 @@ pub extern "C" fn torrivask_distribute_space_up_to_limits(
     left: &mut f32,
     place: &mut u64,
 ) -> u32
-    ensures { λ r. ⌜ (r ≡ codeOf (distributionCall space (now (tracks .entry)) (now (affected .entry)) (now (proportions .entry)) (now (sizes .entry)) (now (limits .entry)) .told)) × (now (tracks .exit) ≡ distributionCall space (now (tracks .entry)) (now (affected .entry)) (now (proportions .entry)) (now (sizes .entry)) (now (limits .entry)) .tracks) × (now (left .exit) ≡ numberAfter (distributionCall space (now (tracks .entry)) (now (affected .entry)) (now (proportions .entry)) (now (sizes .entry)) (now (limits .entry)) .told) (now (left .entry))) × (now (place .exit) ≡ placeAfter (distributionCall space (now (tracks .entry)) (now (affected .entry)) (now (proportions .entry)) (now (sizes .entry)) (now (limits .entry)) .told) (now (place .entry))) ⌝ }
+    ensures { λ r. ⌜ sharedLeft r (now (tracks .exit)) (now (left .exit)) (now (place .exit)) ≡ sharedFace (distributionCall space (now (tracks .entry)) (now (affected .entry)) (now (proportions .entry)) (now (sizes .entry)) (now (limits .entry))) (now (left .entry)) (now (place .entry)) ⌝ }
 {
     let answer = floats::distribute_space_up_to_limits(
         space,
@@ -141,7 +141,7 @@ pub extern "C" fn torrivask_find_size_of_fr(
     size: &mut f32,
     place: &mut u64,
 ) -> u32
-    ensures { λ r. ⌜ (r ≡ codeOf (frCall (now (tracks .entry)) (now (flexible .entry)) (now (factors .entry)) space)) × (now (size .exit) ≡ numberAfter (frCall (now (tracks .entry)) (now (flexible .entry)) (now (factors .entry)) space) (now (size .entry))) × (now (place .exit) ≡ placeAfter (frCall (now (tracks .entry)) (now (flexible .entry)) (now (factors .entry)) space) (now (place .entry))) ⌝ }
+    ensures { λ r. ⌜ numberLeft r (now (size .exit)) (now (place .exit)) ≡ numberFace (frCall (now (tracks .entry)) (now (flexible .entry)) (now (factors .entry)) space) (now (size .entry)) (now (place .entry)) ⌝ }
 {
     let answer = floats::find_size_of_fr(tracks, flexible, factors, space);
     match answer {
@@ -164,7 +164,7 @@ pub extern "C" fn torrivask_maximise_tracks(
     space: f32,
     place: &mut u64,
 ) -> u32
-    ensures { λ r. ⌜ (r ≡ codeOf (maximiseFace (now (tracks .entry)) (now (fits .entry)) (spaceAs kind space) .told)) × (now (tracks .exit) ≡ maximiseFace (now (tracks .entry)) (now (fits .entry)) (spaceAs kind space) .tracks) × (now (place .exit) ≡ placeAfter (maximiseFace (now (tracks .entry)) (now (fits .entry)) (spaceAs kind space) .told) (now (place .entry))) ⌝ }
+    ensures { λ r. ⌜ tracksLeft r (now (tracks .exit)) (now (place .exit)) ≡ tracksFace (maximiseFace (now (tracks .entry)) (now (fits .entry)) (spaceAs kind space)) (now (place .entry)) ⌝ }
 {
     let word = space_of(kind, space);
     match word {
@@ -195,7 +195,7 @@ pub extern "C" fn torrivask_stretch_auto_tracks(
     space: f32,
     place: &mut u64,
 ) -> u32
-    ensures { λ r. ⌜ (r ≡ codeOf (stretchFace (now (tracks .entry)) (now (autos .entry)) (sizeAs given minimum) (spaceAs kind space) .told)) × (now (tracks .exit) ≡ stretchFace (now (tracks .entry)) (now (autos .entry)) (sizeAs given minimum) (spaceAs kind space) .tracks) × (now (place .exit) ≡ placeAfter (stretchFace (now (tracks .entry)) (now (autos .entry)) (sizeAs given minimum) (spaceAs kind space) .told) (now (place .entry))) ⌝ }
+    ensures { λ r. ⌜ tracksLeft r (now (tracks .exit)) (now (place .exit)) ≡ tracksFace (stretchFace (now (tracks .entry)) (now (autos .entry)) (sizeAs given minimum) (spaceAs kind space)) (now (place .entry)) ⌝ }
 {
     let word = space_of(kind, space);
     let size = size_of(given, minimum);

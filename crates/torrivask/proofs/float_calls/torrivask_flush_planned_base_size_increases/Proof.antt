@@ -1,8 +1,7 @@
 -- `torrivask_flush_planned_base_size_increases`: the track that the call told, or its refusal. Assumes nothing.
 use mathlib.Core.Path.{_∙_, ap}
-use mathlib.Core.Bool.{false}
 use Rattle.floats.specs.Rule.{flushBaseCall}
-use Rattle.torrivask.proofs.Told.{flushed-writes, flush-refused}
+use Rattle.torrivask.proofs.Told.{track-writes, track-refused}
 use borrow.Author.Needs.{needs}
 use Rattle.torrivask.proofs.float_calls.torrivask_flush_planned_base_size_increases.Statement.{statement}
 use Rattle.torrivask.proofs.float_calls.torrivask_flush_planned_base_size_increases.Tie as tie
@@ -33,16 +32,14 @@ returns c =
     let entry = c .before .before .before .before .before .before .before .args in
     let call = c .before .before .before .before .flush-planned-base-size-increases in
     let flushes = c .before .before .answer .given in
-    let told = flushed-writes (call .result) _ (call .ensures ∙ ap flushBaseCall (c .before .before .before .before .before .new .ensures)) (entry .track .now) false (entry .place .now) (flushes .0 .0) _ (flushes .1) (c .row .ensures) in
-    (told .0, told .1, told .3)
+    track-writes (call .result) _ (call .ensures ∙ ap flushBaseCall (c .before .before .before .before .before .new .ensures)) (entry .track .now) (entry .place .now) (flushes .0 .0) _ (flushes .1) (c .row .ensures)
 
 returns-2 : tie.Need-returns-2
 returns-2 c =
     let entry = c .before .before .before .before .before .before .before .before .args in
     let call = c .before .before .before .before .before .flush-planned-base-size-increases in
     let refuses = c .before .before .before .answer2 .given in
-    let told = flush-refused (call .result) _ (call .ensures ∙ ap flushBaseCall (c .before .before .before .before .before .before .new .ensures)) (entry .track .now) false (entry .place .now) (refuses .0 .0) _ _ (refuses .1) (c .number .ensures) (c .before .place .ensures) in
-    (told .0, told .1, told .3)
+    track-refused (call .result) _ (call .ensures ∙ ap flushBaseCall (c .before .before .before .before .before .before .new .ensures)) (entry .track .now) (entry .place .now) (refuses .0 .0) _ _ (refuses .1) (c .number .ensures) (c .before .place .ensures)
 
 pub torrivask-flush-planned-base-size-increases-spec : {M : Type 1} → statement M
 torrivask-flush-planned-base-size-increases-spec =

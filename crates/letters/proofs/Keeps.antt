@@ -31,6 +31,7 @@ use Rattle.lines.proofs.Fits.{at-least-le, limit-size-le, limited-le, for-auto-
 use Rattle.letters.specs.declared.letter.Letter.{Letter}
 use Rattle.letters.specs.declared.letter.Letter.the-variants.{A, B, C, D, E, F}
 use Rattle.letters.specs.Letters.{letterOf, most}
+use Rattle.letters.proofs.Nothing.{length-first}
 use Rattle.letters.proofs.Shared.{firstFill, first-fresh, zip-fresh, getD-zeros}
 
 -- ---- the gains of an item
@@ -49,15 +50,12 @@ module _ (letter : rule.Letter) (extra : ℕ) (on : List Line) where
   rest-fresh : Fresh (zipWith (restTrack letter on) on firstGains)
   rest-fresh = zip-fresh (restTrack letter on) (λ (l : Line) (g : ℕ). refl) on firstGains
 
-  length-first : length firstGains ≡ length on
-  length-first = length-gains extra (map (firstTrack letter) on) (first-fresh letter on) ∙ length-map on (firstTrack letter)
-
   length-rest : length (gainsOf (fill (firstFill letter extra on .left) (zipWith (restTrack letter on) on firstGains) .tracks)) ≡ length on
-  length-rest = length-gains (firstFill letter extra on .left) (zipWith (restTrack letter on) on firstGains) rest-fresh ∙ length-zip (restTrack letter on) on firstGains length-first
+  length-rest = length-gains (firstFill letter extra on .left) (zipWith (restTrack letter on) on firstGains) rest-fresh ∙ length-zip (restTrack letter on) on firstGains (length-first letter extra on)
 
   pub length-shares : length (shares letter extra on) ≡ length on
   unfolding shares
-  length-shares = length-zip _+_ firstGains (gainsOf (fill (firstFill letter extra on .left) (zipWith (restTrack letter on) on firstGains) .tracks)) (length-rest ∙ sym length-first) ∙ length-first
+  length-shares = length-zip _+_ firstGains (gainsOf (fill (firstFill letter extra on .left) (zipWith (restTrack letter on) on firstGains) .tracks)) (length-rest ∙ sym (length-first letter extra on)) ∙ length-first letter extra on
 
   -- no line gains more than there is
   pub shares-le : (i : ℕ) → getD (shares letter extra on) i 0 ≤ extra

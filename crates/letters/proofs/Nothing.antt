@@ -59,14 +59,15 @@ unaffected-idle : (dots : ℕ) (ts : List Track) → Unaffected ts → more (fil
 unfolding more
 unaffected-idle dots ts u = rw (none-open ts u) (and-false (ltb 0 dots))
 
-neither : (a b : Bool) → (a || b) ≡ false → (a ≡ false) × (b ≡ false)
-neither false b e = (refl, e)
-neither true b e = absurd (true≢false e)
+-- two marks that are both off
+pub or-neither : (a b : Bool) → (a || b) ≡ false → (a ≡ false) × (b ≡ false)
+or-neither false b e = (refl, e)
+or-neither true b e = absurd (true≢false e)
 
 -- ---- the shares of a letter
 
 module _ (letter : rule.Letter) where
-  length-first : (extra : ℕ) (ls : List Line) → length (gainsOf (firstFill letter extra ls .tracks)) ≡ length ls
+  pub length-first : (extra : ℕ) (ls : List Line) → length (gainsOf (firstFill letter extra ls .tracks)) ≡ length ls
   length-first extra ls = length-gains extra (map (firstTrack letter) ls) (first-fresh letter ls) ∙ length-map ls (firstTrack letter)
 
   -- what remains is shared without a round
@@ -104,14 +105,14 @@ module _ (letter : rule.Letter) where
   first-unaffected : (ls : List Line) → some (letter .affected) ls ≡ false → Unaffected (map (firstTrack letter) ls)
   unfolding some All
   first-unaffected [] e = tt
-  first-unaffected (l ∷ ls) e = let n = neither (letter .affected l) (some (letter .affected) ls) e in (n .0, first-unaffected ls (n .1))
+  first-unaffected (l ∷ ls) e = let n = or-neither (letter .affected l) (some (letter .affected) ls) e in (n .0, first-unaffected ls (n .1))
 
   rest-unaffected : (on ls : List Line) (gs : List ℕ) → some (letter .affected) ls ≡ false → Unaffected (zipWith (restTrack letter on) ls gs)
   unfolding some All zipWith
   rest-unaffected on [] gs e = tt
   rest-unaffected on (l ∷ ls) [] e = tt
   rest-unaffected on (l ∷ ls) (g ∷ gs) e =
-      let n = neither (letter .affected l) (some (letter .affected) ls) e in
+      let n = or-neither (letter .affected l) (some (letter .affected) ls) e in
       (rw (n .0) refl, rest-unaffected on ls gs (n .1))
 
   pub shares-unaffected : (extra : ℕ) (ls : List Line) → some (letter .affected) ls ≡ false

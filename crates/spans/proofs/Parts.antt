@@ -1,6 +1,5 @@
--- One row of a store and what it says, numbers going up, and two marks that are both off. Assumes nothing.
+-- One row of a store and what it says, and numbers going up. Assumes nothing.
 use mathlib.Core.Path.{_≡_, refl, ap, _∙_}
-use mathlib.Core.Bool.{Bool, true, false, _||_, true≢false}
 use mathlib.Core.List.{List, [], _∷_, map}
 use Prim.Native.Nat.{ℕ, zero, suc, _+_, _<_}
 use native.Mathlib.Nat.{le-of-suc-le-suc, not-suc-le-zero}
@@ -32,7 +31,3 @@ module _ {S : Type 0} (f : ℕ → S → S) where
   unfolding inTurn upFrom
   up-end k zero s w h e = e
   up-end k (suc n) s w h e = absurd (omega arith)
-
-pub or-neither : (a b : Bool) → (a || b) ≡ false → (a ≡ false) × (b ≡ false)
-or-neither false b e = (refl, e)
-or-neither true b e = absurd (true≢false e)

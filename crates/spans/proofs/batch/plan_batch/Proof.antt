@@ -12,7 +12,7 @@ use Rattle.lines.specs.Fits.{MeasuredFits, MeasuredFit}
 use Rattle.lines.specs.Chains.{chained}
 use Rattle.lines.proofs.Chains.{walk-turn, walk-end, all-part, all-rest}
 use Rattle.letters.specs.Letters.{letterOf}
-use Rattle.spans.proofs.Parts.{or-neither}
+use Rattle.letters.proofs.Nothing.{or-neither}
 use Rattle.spans.proofs.batch.plan_batch.Tie as tie
 
 abbrev Inv-loop : tie.InvT-loop

@@ -6,7 +6,7 @@ use mathlib.Core.Bool.{Bool, _&&_, true≢false}
 use borrow.Author.Tests.{not-true}
 use lib.ListN.{length, length-replicate}
 use Rattle.lines.specs.Rows.{linesOf}
-use Rattle.spans.proofs.Parts.{or-neither}
+use Rattle.letters.proofs.Nothing.{or-neither}
 use Rattle.spans.proofs.Calm.{lines-stay}
 use Rattle.spans.proofs.Planned.{sums-long}
 use Rattle.spans.proofs.Raised.{length-planned, planned-fit, raised-is, not-raised}

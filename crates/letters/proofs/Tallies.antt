@@ -4,14 +4,14 @@ use mathlib.Core.List.{List, [], _∷_, _++_, map, append-nil}
 use Prim.Native.Nat.{ℕ, zero, suc, _+_, _-_, _≤_, _<_}
 use native.Mathlib.Nat.{le-of-suc-le-suc, not-suc-le-zero, zero-add}
 use native.Mathlib.Omega.{arith}
-use lib.ListN.{length, getD, take, drop, set, length-set, length-map}
+use lib.ListN.{length, getD, take, drop, set, length-set}
 use lib.Seq.{take-all, take-add}
 use Rattle.laws.specs.Sums.{sum}
 use Rattle.laws.specs.Walk.{written}
 use Rattle.kinds.specs.Kinds.{Row}
 use Rattle.lines.specs.declared.line.Line.{Line}
 use Rattle.lines.specs.Rule.{limitSize}
-use Rattle.lines.specs.Rows.{lineOf, linesOf}
+use Rattle.lines.specs.Rows.{lineOf}
 use Rattle.letters.specs.declared.letter.Letter.{Letter}
 use Rattle.letters.specs.declared.letter.Letter.the-variants.{A, B, C, D, E, F}
 use Rattle.letters.specs.Letters.{letterOf}

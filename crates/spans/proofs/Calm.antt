@@ -1,14 +1,15 @@
 -- Lines at rest: a letter that gives nothing leaves them, a batch ends with them, and so does step 2. Assumes nothing.
 use mathlib.Core.Path.{_≡_, refl, sym, ap, _∙_, subst}
 use mathlib.Core.Bool.{Bool, true, false, cond, not, _&&_, true≢false}
-use mathlib.Core.List.{List, [], _∷_, map, zipWith}
-use Prim.Native.Nat.{ℕ, zero, suc, _+_, _≤_, max}
+use mathlib.Core.List.{List, [], _∷_, zipWith}
+use Prim.Native.Nat.{ℕ, zero, suc, _+_}
 use native.Mathlib.Nat.{add-zero}
 use native.Mathlib.Omega.{arith}
 use borrow.Author.Tests.{eqb-true, not-false}
 use lib.Dec.{ltb, eqb}
 use lib.ListN.{length, replicate}
 use Rattle.laws.specs.Lists.{All, inTurn, changeAt}
+use Rattle.laws.specs.Alls.{all-map, all-image, image-all}
 use Rattle.kinds.specs.declared.space.Constraint.{Constraint}
 use Rattle.kinds.specs.declared.space.Constraint.the-variants.{Definite, MinContent, MaxContent}
 use Rattle.kinds.specs.declared.track.Track.{Track}
@@ -16,11 +17,12 @@ use Rattle.lines.specs.declared.limit.Limit.{Limit}
 use Rattle.lines.specs.declared.limit.Limit.the-variants.{None, UpTo}
 use Rattle.lines.specs.declared.line.Line.{Line}
 use Rattle.lines.specs.declared.measured.Measured.{Measured}
-use Rattle.lines.specs.Rule.{line, atLeast, limitPlus, isNone, settled, grownBase, grownLimit, increases, raise, start, withItem, withItemAt, singles}
+use Rattle.lines.specs.Rule.{line, atLeast, limitPlus, isNone, settled, grownBase, grownLimit, raise, startLine, start, withItem, withItemAt, singles}
 use Rattle.letters.specs.declared.letter.Letter.{Letter}
 use Rattle.letters.specs.declared.letter.Letter.the-variants.{A, B, C, D, E, F}
 use Rattle.letters.specs.Letters.{letterOf, settles}
-use Rattle.spans.specs.Work.{above, AtRest, Calm, letterAt, hasPlace, letterStep, letterSteps}
+use Rattle.spans.specs.Work.{above, AtRest, Calm, letterStep, letterSteps}
+use Rattle.spans.proofs.Parts.{all-zip}
 
 -- ---- an increase of nothing
 
@@ -92,62 +94,40 @@ above-plus : (base increase : ℕ) (limit : Limit) → above base limit → abov
 above-plus base increase None a = above-more base increase (ltb 0 increase)
 above-plus base increase (UpTo n) a = omega arith
 
-abbrev Settled : List Line → Type 0
-Settled = All (λ (l : Line). above (l .base) (l .limit))
+abbrev Settled : Line → Type 0
+Settled l = above (l .base) (l .limit)
 
-settled-by-d : (ls : List Line) (ps : List ℕ) → Settled (zipWith (letterOf D .grown) ls ps)
-unfolding zipWith All
-settled-by-d [] ps = tt
-settled-by-d (l ∷ ls) [] = tt
-settled-by-d (l ∷ ls) (p ∷ ps) = (above-settled (l .base + p) (l .limit), settled-by-d ls ps)
+abbrev Unmarked : Line → Type 0
+Unmarked l = l .grows ≡ false
 
-settled-through-e : (ls : List Line) (ps : List ℕ) → Settled ls → Settled (zipWith (letterOf E .grown) ls ps)
-unfolding zipWith All
-settled-through-e [] ps s = tt
-settled-through-e (l ∷ ls) [] s = tt
-settled-through-e (l ∷ ls) (p ∷ ps) s = (above-plus (l .base) p (l .limit) (s .0), settled-through-e ls ps (s .1))
+-- (a) to (c) leave the marks, and (d) settles
+bases-unmarked : (ls : List Line) (ps : List ℕ) → All Unmarked ls → All Unmarked (zipWith grownBase ls ps)
+bases-unmarked = all-zip grownBase Unmarked Unmarked (λ (l : Line) (p : ℕ) (u : Unmarked l). u)
 
-calm-by-f : (ls : List Line) (ps : List ℕ) → Settled ls → Calm (zipWith (letterOf F .grown) ls ps)
-unfolding zipWith All
-calm-by-f [] ps s = tt
-calm-by-f (l ∷ ls) [] s = tt
-calm-by-f (l ∷ ls) (p ∷ ps) s = ((above-plus (l .base) p (l .limit) (s .0), refl), calm-by-f ls ps (s .1))
+calm-by-d : (ls : List Line) (ps : List ℕ) → All Unmarked ls → Calm (zipWith (letterOf D .grown) ls ps)
+calm-by-d = all-zip (letterOf D .grown) Unmarked AtRest (λ (l : Line) (p : ℕ) (u : Unmarked l). (above-settled (l .base + p) (l .limit), u))
 
-pub batch-calm : (c : Constraint) (batch : List Measured) (ls : List Line) → Calm (letterSteps 6 c batch ls)
-unfolding letterSteps letterStep raise
-batch-calm c batch ls = calm-by-f _ _ (settled-through-e _ _ (settled-by-d (letterSteps 3 c batch ls) _))
+-- (e) leaves lines settled, and (f) takes the marks away
+settled-by-e : (ls : List Line) (ps : List ℕ) → Calm ls → All Settled (zipWith (letterOf E .grown) ls ps)
+settled-by-e = all-zip (letterOf E .grown) AtRest Settled (λ (l : Line) (p : ℕ) (r : AtRest l). above-plus (l .base) p (l .limit) (r .0))
 
--- after (d) too, where the batch began with calm lines
+calm-by-f : (ls : List Line) (ps : List ℕ) → All Settled ls → Calm (zipWith (letterOf F .grown) ls ps)
+calm-by-f = all-zip (letterOf F .grown) Settled AtRest (λ (l : Line) (p : ℕ) (s : Settled l). (above-plus (l .base) p (l .limit) s, refl))
 
-abbrev Unmarked : List Line → Type 0
-Unmarked = All (λ (l : Line). l .grows ≡ false)
-
-calm-unmarked : (ls : List Line) → Calm ls → Unmarked ls
-unfolding All
-calm-unmarked [] r = tt
-calm-unmarked (l ∷ ls) r = (r .0 .1, calm-unmarked ls (r .1))
-
-bases-unmarked : (ls : List Line) (ps : List ℕ) → Unmarked ls → Unmarked (zipWith grownBase ls ps)
-unfolding zipWith All
-bases-unmarked [] ps u = tt
-bases-unmarked (l ∷ ls) [] u = tt
-bases-unmarked (l ∷ ls) (p ∷ ps) u = (u .0, bases-unmarked ls ps (u .1))
-
-calm-by-d : (ls : List Line) (ps : List ℕ) → Unmarked ls → Calm (zipWith (letterOf D .grown) ls ps)
-unfolding zipWith All
-calm-by-d [] ps u = tt
-calm-by-d (l ∷ ls) [] u = tt
-calm-by-d (l ∷ ls) (p ∷ ps) u = ((above-settled (l .base + p) (l .limit), u .0), calm-by-d ls ps (u .1))
-
-three-unmarked : (c : Constraint) (batch : List Measured) (ls : List Line) → Unmarked ls → Unmarked (letterSteps 3 c batch ls)
+three-unmarked : (c : Constraint) (batch : List Measured) (ls : List Line) → All Unmarked ls → All Unmarked (letterSteps 3 c batch ls)
 unfolding letterSteps letterStep raise
 three-unmarked (Definite n) batch ls u = bases-unmarked _ _ (bases-unmarked _ _ u)
 three-unmarked MinContent batch ls u = bases-unmarked _ _ (bases-unmarked _ _ u)
 three-unmarked MaxContent batch ls u = bases-unmarked _ _ (bases-unmarked _ _ (bases-unmarked _ _ u))
 
+-- a batch that begins with calm lines has them again behind (d), and at its end
 half-calm : (c : Constraint) (batch : List Measured) (ls : List Line) → Calm ls → Calm (letterSteps 4 c batch ls)
 unfolding letterSteps letterStep raise
-half-calm c batch ls r = calm-by-d _ _ (three-unmarked c batch ls (calm-unmarked ls r))
+half-calm c batch ls r = calm-by-d _ _ (three-unmarked c batch ls (all-map AtRest Unmarked (λ (l : Line) (k : AtRest l). k .1) ls r))
+
+pub batch-calm : (c : Constraint) (batch : List Measured) (ls : List Line) → Calm ls → Calm (letterSteps 6 c batch ls)
+unfolding letterSteps letterStep raise
+batch-calm c batch ls r = calm-by-f _ _ (settled-by-e _ _ (half-calm c batch ls r))
 
 pub still-calm : (c : Constraint) (batch : List Measured) (start ls : List Line) (k : ℕ) (moved : Bool) → Calm start → ls ≡ letterSteps k c batch start
     → (moved ≡ false → Calm ls) → (moved && not (eqb k 4)) ≡ false → Calm ls
@@ -158,27 +138,22 @@ still-calm c batch start ls k true r e calm off =
 
 -- ---- step 2
 
-start-unmarked : (ts : List Track) → Unmarked (start ts)
-unfolding All start
-start-unmarked [] = tt
-start-unmarked (t ∷ ts) = (refl, start-unmarked ts)
+start-unmarked : (ts : List Track) → All Unmarked (start ts)
+unfolding start
+start-unmarked ts = image-all Unmarked startLine (λ (t : Track). refl) ts
 
-change-unmarked : (c : Constraint) (i : Measured) (k : ℕ) (ls : List Line) → Unmarked ls → Unmarked (changeAt k (withItem c i) ls)
+change-unmarked : (c : Constraint) (i : Measured) (k : ℕ) (ls : List Line) → All Unmarked ls → All Unmarked (changeAt k (withItem c i) ls)
 unfolding All changeAt
 change-unmarked c i k [] u = tt
 change-unmarked c i zero (l ∷ ls) u = u
 change-unmarked c i (suc k) (l ∷ ls) u = (u .0, change-unmarked c i k ls (u .1))
 
-items-unmarked : (c : Constraint) (is : List Measured) (ls : List Line) → Unmarked ls → Unmarked (inTurn (withItemAt c) is ls)
+items-unmarked : (c : Constraint) (is : List Measured) (ls : List Line) → All Unmarked ls → All Unmarked (inTurn (withItemAt c) is ls)
 unfolding inTurn
 items-unmarked c [] ls u = u
 items-unmarked c (i ∷ is) ls u = items-unmarked c is (withItemAt c i ls) (change-unmarked c i (i .start) ls u)
 
-settled-calm : (ls : List Line) → Unmarked ls → Calm (map settled ls)
-unfolding All
-settled-calm [] u = tt
-settled-calm (l ∷ ls) u = ((above-settled (l .base) (l .limit), u .0), settled-calm ls (u .1))
-
 pub singles-calm : (c : Constraint) (is : List Measured) (ts : List Track) → Calm (singles c is (start ts))
 unfolding singles
-singles-calm c is ts = settled-calm _ (items-unmarked c is (start ts) (start-unmarked ts))
+singles-calm c is ts =
+    all-image AtRest settled Unmarked (λ (l : Line) (u : Unmarked l). (above-settled (l .base) (l .limit), u)) _ (items-unmarked c is (start ts) (start-unmarked ts))

@@ -52,7 +52,7 @@ returns-2 c =
       e .1,
       e .2,
       e .3,
-      subst Calm (sym (e .0)) (batch-calm (a .constraint) (chained (a .items .now) (a .nexts .now) (a .first)) (linesOf (a .lines .now))),
+      subst Calm (sym (e .0)) (batch-calm (a .constraint) (chained (a .items .now) (a .nexts .now) (a .first)) (linesOf (a .lines .now)) (s .pre .3)),
     )
 
 pub batched-spec : {M : Type 1} → statement M

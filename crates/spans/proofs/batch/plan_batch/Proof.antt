@@ -2,7 +2,7 @@
 use borrow.Author.Needs.{needs}
 use Rattle.spans.proofs.batch.plan_batch.Statement.{statement}
 use mathlib.Core.Path.{_≡_, refl, _∙_}
-use mathlib.Core.Bool.{Bool, false}
+use mathlib.Core.Bool.{false}
 use Prim.Native.Nat.{_-_, _<_}
 use lib.ListN.{length}
 use Rattle.laws.specs.Lists.{inTurn}

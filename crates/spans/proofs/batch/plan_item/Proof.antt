@@ -1,8 +1,8 @@
 -- `plan_item` lays what one item gives over the increases, if it gives anything. Assumes nothing.
 use borrow.Author.Needs.{needs}
 use Rattle.spans.proofs.batch.plan_item.Statement.{statement}
-use mathlib.Core.Path.{_≡_, refl, sym, _∙_}
-use mathlib.Core.Bool.{Bool, true, false, true≢false}
+use mathlib.Core.Path.{refl, sym, _∙_}
+use mathlib.Core.Bool.{true≢false}
 use borrow.Author.Tests.{not-true}
 use native.Mathlib.Omega.{arith}
 use lib.Seq.{length-take-le}

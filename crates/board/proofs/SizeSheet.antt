@@ -5,7 +5,7 @@ use mathlib.Core.List.{List, _++_, map}
 use Prim.Native.Nat.{_≤_, _<_}
 use lib.ListN.{length, drop}
 use borrow.Author.Tests.{lt-leb, le-leb}
-use Rattle.fill.specs.Rule.{mostTracks}
+use Rattle.rounds.specs.Rule.{mostTracks}
 use Rattle.kinds.specs.Kinds.{Row, trackOf, itemOf}
 use Rattle.kinds.specs.declared.space.Space.{Space}
 use Rattle.lines.specs.Rule.{Board}

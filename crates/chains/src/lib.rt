@@ -8,7 +8,7 @@ ghost use mathlib.Core.List.{map};
 ghost use Prim.Native.Nat.{ℕ, _≤_};
 ghost use lib.ListN.{length, replicate};
 ghost use Rattle.laws.specs.Lists.{All};
-ghost use Rattle.fill.specs.Rule.{mostTracks};
+ghost use Rattle.rounds.specs.Rule.{mostTracks};
 ghost use Rattle.kinds.specs.Kinds.{trackOf, itemOf};
 ghost use Rattle.checks.specs.Sound.{ItemFits};
 ghost use Rattle.chains.specs.Batches.{batchOf, Gathered};

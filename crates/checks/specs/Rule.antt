@@ -6,7 +6,7 @@ use mathlib.Core.List.{List, [], _∷_}
 use lib.Dec.{ltb, leb, eqb}
 use lib.ListN.{length, take, drop}
 use Rattle.laws.specs.Lists.{some}
-use Rattle.fill.specs.Rule.{mostDots}
+use Rattle.rounds.specs.Rule.{mostDots}
 use Rattle.kinds.specs.Kinds.{amountAt, fallsIn}
 use Rattle.kinds.specs.declared.amount.Amount.{Amount}
 use Rattle.kinds.specs.declared.amount.Amount.the-variants.{Absent, Given}

@@ -4,7 +4,7 @@ use Prim.Native.Nat.{ℕ, _+_, _≤_, _<_}
 use mathlib.Core.List.{List}
 use lib.ListN.{length}
 use Rattle.laws.specs.Lists.{All}
-use Rattle.fill.specs.Rule.{mostDots}
+use Rattle.rounds.specs.Rule.{mostDots}
 use Rattle.kinds.specs.Kinds.{amountNumber, constraintNumber, minimumNumber, maximumNumber, amountAt}
 use Rattle.kinds.specs.declared.space.Space.{Space}
 use Rattle.kinds.specs.declared.track.Maximum.{Maximum}

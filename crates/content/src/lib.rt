@@ -15,7 +15,7 @@ ghost use mathlib.Core.List.{map};
 ghost use Prim.Native.Nat.{ℕ, _+_, _-_, _≤_, _<_};
 ghost use lib.ListN.{length, getD, replicate};
 ghost use Rattle.laws.specs.Lists.{All, keep, inTurn, upFrom};
-ghost use Rattle.fill.specs.Rule.{mostTracks};
+ghost use Rattle.rounds.specs.Rule.{mostTracks};
 ghost use Rattle.kinds.specs.Kinds.{trackOf, itemOf};
 ghost use Rattle.checks.specs.Sound.{TrackFits, ItemFits};
 ghost use Rattle.lines.specs.Rule.{measuredItems, inOneTrack, start, singles, batched, missing, content};

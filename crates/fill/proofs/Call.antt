@@ -8,13 +8,13 @@ use lib.Dec.{ltb, leb, eqb}
 use lib.ListN.{length, getD}
 use borrow.Author.Tests.{lt-ltb, le-ltb, leb-true, eqb-true}
 use Rattle.fill.specs.Rule.{trackOf, tracksOf, mostTracks, mostDots, listsFit, firstOver, Outcome, outcome, filled, refused, filledOutcome, fillLists, fillCall}
-use Rattle.fill.specs.Rests.{caps, stateOf, fillRests, lost}
+use Rattle.rounds.specs.Rests.{caps, stateOf, fillRests, lost}
 use Rattle.fill.specs.Answer.{numberOf, placeOf, toldBy, ListsFit}
 use Rattle.fill.specs.declared.answer.Refusal.{Refusal}
 use Rattle.fill.specs.declared.answer.Refusal.the-variants.{Lists, Dots, Room}
 use Rattle.fill.specs.declared.answer.FillAnswer.{FillAnswer}
 use Rattle.fill.specs.declared.answer.FillAnswer.the-variants.{Filled, Refused}
-use Rattle.fill.proofs.Tied.{fill-agrees}
+use Rattle.rounds.proofs.Tied.{fill-agrees}
 
 module _ (as′ ls : List Bool) (rs gs : List ℕ) (fits : listsFit (length as′) (length ls) (length rs) (length gs) ≡ true) where
   pub lists-fit : ListsFit as′ ls rs gs

@@ -9,7 +9,8 @@ use lib.ListN.{length, getD}
 use Rattle.laws.specs.Tests.{never}
 use Rattle.laws.specs.Marks.{bit, number}
 use Rattle.fill.specs.Rule.{Track, trackOf, tracksOf, roomOf, within}
-use Rattle.fill.specs.Rests.{capIn, capOf, caps, openRests, lost}
+use Rattle.rounds.specs.Rests.{capIn, capOf, caps, openRests}
+use Rattle.rounds.proofs.Caps.{caps-length-tracks}
 use Rattle.fill.specs.Demand.{OneLength, Allowed, Full, Short}
 
 -- ---- the tracks of a call's lists, and their caps
@@ -23,11 +24,6 @@ tracks-length (a ∷ as′) (l ∷ ls) (r ∷ rs) z =
 tracks-length (a ∷ as′) (l ∷ ls) [] z = refl
 tracks-length (a ∷ as′) [] rs z = z .limited
 tracks-length [] ls rs z = z .affected
-
-pub caps-length-tracks : (dots : ℕ) (ts : List Track) → length (caps dots ts) ≡ length ts
-unfolding caps
-caps-length-tracks dots [] = refl
-caps-length-tracks dots (t ∷ ts) = ap suc (caps-length-tracks dots ts)
 
 pub caps-length : (dots : ℕ) (as′ ls : List Bool) (rs : List ℕ) → OneLength as′ ls rs rs → length (caps dots (tracksOf as′ ls rs)) ≡ length rs
 caps-length dots as′ ls rs z = caps-length-tracks dots (tracksOf as′ ls rs) ∙ tracks-length as′ ls rs z
@@ -58,19 +54,6 @@ open-caps-le dots (a ∷ as′) (l ∷ ls) (r ∷ rs) = omega (arith, open-cap-l
 open-caps-le dots (a ∷ as′) (l ∷ ls) [] = zero-le
 open-caps-le dots (a ∷ as′) [] rs = zero-le
 open-caps-le dots [] ls rs = zero-le
-
-pub lost-le : (cs xs : List ℕ) (i : ℕ) → getD (lost cs xs) i 0 ≤ getD cs i 0
-unfolding lost
-lost-le [] xs i = zero-le
-lost-le (c ∷ cs) [] i = zero-le
-lost-le (c ∷ cs) (x ∷ xs) zero = omega arith
-lost-le (c ∷ cs) (x ∷ xs) (suc i) = lost-le cs xs i
-
-pub lost-length : (cs xs : List ℕ) → length xs ≡ length cs → length (lost cs xs) ≡ length cs
-unfolding lost
-lost-length [] xs e = refl
-lost-length (c ∷ cs) [] e = absurd (omega arith)
-lost-length (c ∷ cs) (x ∷ xs) e = ap suc (lost-length cs xs (omega arith))
 
 -- ---- one track: its cap read as its room
 

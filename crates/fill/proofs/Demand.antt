@@ -16,15 +16,16 @@ use Rattle.laws.specs.Sums.{getD-le-sum}
 use Rattle.laws.specs.Quotients.{quotient-antitone}
 use Rattle.laws.specs.Runs.{Passed, runs-passed}
 use Rattle.fill.specs.Rule.{Track, trackOf, tracksOf, gainsOf, opens, within, Fill, fillOf, round, more, fill, fillLists}
-use Rattle.fill.specs.Rests.{capOf, caps, openRests, fillRests, lost}
+use Rattle.rounds.specs.Rests.{capOf, caps, openRests, fillRests, lost}
 use Rattle.fill.specs.Demand.{OneLength, Allowed, Full, Short, OneBehind, SumHolds, FairFill, roomAt}
-use Rattle.fill.proofs.RestRounds.{done-cases}
-use Rattle.fill.proofs.Level.{fill-done, fill-length, fill-sum}
+use Rattle.rounds.proofs.RestRounds.{done-cases}
+use Rattle.rounds.proofs.Level.{fill-done, fill-length, fill-sum}
 use Rattle.fill.proofs.Fair.{fill-fair}
 use Rattle.fill.proofs.RoundCount.{fill-rounds}
 use Rattle.fill.proofs.Share.{full-at, open-some, fill-share}
-use Rattle.fill.proofs.Tied.{fill-agrees}
-use Rattle.fill.proofs.Caps.{caps-length, cap-at, open-caps-le, lost-le, lost-length, allowed-of-le-cap, full-of-eq-cap, lt-cap-of-short, within-le-of-share, le-room-of-allowed}
+use Rattle.rounds.proofs.Tied.{fill-agrees}
+use Rattle.rounds.proofs.Caps.{lost-le, lost-length}
+use Rattle.fill.proofs.Caps.{caps-length, cap-at, open-caps-le, allowed-of-le-cap, full-of-eq-cap, lt-cap-of-short, within-le-of-share, le-room-of-allowed}
 use Rattle.fill.proofs.Unique.{unique}
 
 round-rounds : (f : Fill) → round f .rounds ≡ f .rounds + 1

@@ -12,8 +12,8 @@ use borrow.Author.Tests.{eqb-false}
 use Rattle.laws.specs.Tests.{lt-or-ge}
 use Rattle.laws.specs.Quotients.{le-of-quotient-pos}
 use Rattle.laws.specs.Runs.{runs-keep}
-use Rattle.fill.specs.Rests.{openRests, lowered, leastRest, takeEach, State, stateOf, shareOf, restRound, restMore, fillRests}
-use Rattle.fill.proofs.RestRounds.{round-cases, more-left, more-open}
+use Rattle.rounds.specs.Rests.{openRests, lowered, leastRest, takeEach, State, stateOf, shareOf, restRound, restMore, fillRests}
+use Rattle.rounds.proofs.RestRounds.{round-cases, more-left, more-open}
 
 pub each-open-le : (k : ℕ) (xs : List ℕ) → openRests (takeEach k xs) ≤ openRests xs
 unfolding takeEach openRests

@@ -10,11 +10,11 @@ use lib.ListN.{length, getD}
 use Rattle.laws.specs.Tests.{lt-or-ge}
 use Rattle.laws.specs.Marks.{bit, number}
 use Rattle.laws.specs.Sums.{sum}
-use Rattle.fill.specs.Rests.{openRests, takeEach, openMarks, takeMarked, takeOdd, fillRests, lost}
-use Rattle.fill.proofs.Odd.{odd-number}
-use Rattle.fill.proofs.OpenMarks.{Among, none, one, odd-among}
-use Rattle.fill.proofs.RestRounds.{done-cases}
-use Rattle.fill.proofs.Level.{Level, fill-level, fill-done, fill-length, fill-sum}
+use Rattle.rounds.specs.Rests.{openRests, takeEach, openMarks, takeMarked, takeOdd, fillRests, lost}
+use Rattle.rounds.proofs.Odd.{odd-number}
+use Rattle.rounds.proofs.OpenMarks.{Among, none, one, odd-among}
+use Rattle.rounds.proofs.RestRounds.{done-cases}
+use Rattle.rounds.proofs.Level.{Level, fill-level, fill-done, fill-length, fill-sum}
 use Rattle.fill.proofs.Fair.{gain-at}
 use Rattle.fill.proofs.RoundCount.{each-open-le}
 

@@ -1,4 +1,4 @@
--- The code's values in the words of the rule: its answer by the paper's numbers, its tracks, and what its survey finds.
+-- The code's values in the words of the rule: its answer by the paper's numbers, and its tracks.
 -- Assumes nothing.
 use Prim.Native.Nat.{ℕ, _+_, _≤_}
 use mathlib.Core.Bool.{Bool}
@@ -6,14 +6,13 @@ use mathlib.Core.List.{List}
 use lib.ListN.{length}
 use Rattle.fill.specs.Rule as Rule
 use Rattle.fill.specs.Rule.{roomOver, mostTracks, Told, filled, refused, Outcome, outcome}
-use Rattle.fill.specs.Rests.{capOf, openRests, leastRest}
+use Rattle.rounds.specs.Rests.{capOf}
 use Rattle.fill.specs.Demand.{OneLength}
 use Rattle.fill.specs.declared.answer.Refusal.{Refusal}
 use Rattle.fill.specs.declared.answer.Refusal.the-variants.{Lists, Dots, Room}
 use Rattle.fill.specs.declared.answer.FillAnswer.{FillAnswer}
 use Rattle.fill.specs.declared.answer.FillAnswer.the-variants.{Filled, Refused}
 use Rattle.fill.specs.declared.limits.Track.{Track}
-use Rattle.fill.specs.declared.rests.Found.{Found}
 
 -- The paper's number of each refusal, and its place.
 abbrev pub numberOf : Refusal → ℕ
@@ -48,10 +47,6 @@ overAt t = roomOver (inRule t .room)
 
 abbrev pub capAt : ℕ → Track → ℕ
 capAt dots t = capOf dots (inRule t)
-
--- what the walks over the rests find
-abbrev pub foundIn : ℕ → List ℕ → Found
-foundIn most xs = record { count = openRests xs; least = leastRest most xs }
 
 -- the lists of a call that is not refused by 12
 pub record ListsFit (as′ ls : List Bool) (rs gs : List ℕ) : Type 0 where

@@ -1,4 +1,3 @@
 pub mod Rule
 pub mod Demand
-pub mod Rests
 pub mod Answer

@@ -1,19 +1,16 @@
-// The fill: handing out dots fairly below limits (specs/Rule.antt is the rule, docs/PROMISES.md the promise in words).
+// The fill called by itself: its refusals, and the rounds on the call's own lists (specs/Rule.antt is the rule, docs/PROMISES.md the
+// promise in words).
 //
 // The lent gains are the working store: they hold each track's rest while the rounds run, and its gain at the end. No
 // byte of them is written before every refusal has been ruled out.
 mod answer;
 mod limits;
 mod lists;
-mod rests;
-mod rounds;
 
 pub use answer::FillAnswer;
 pub use answer::Refusal;
-pub use limits::Space;
-pub use limits::Track;
-pub use rounds::Rounds;
-pub use rounds::run_rounds;
+use limits::Space;
+use rounds::Rounds;
 ghost use mathlib.Core.Path.{_≡_};
 ghost use Rattle.fill.specs.Rule.{filled, outcome, filledOutcome, fillLists, fillCall};
 ghost use Rattle.fill.specs.Answer.{leaves, ListsFit};

@@ -10,8 +10,7 @@ pub struct Space {
 }
 
 impl Space {
-    // The most dots of a space.
-    pub const MOST: u32 = 16_777_215;
+    pub const MOST: u32 = kinds::Space::MOST;
 
     pub(crate) fn new(dots: u32) -> Space
         ensures { λ r. ⌜ r .dots ≡ dots ⌝ }
@@ -34,8 +33,7 @@ pub struct Track {
 }
 
 impl Track {
-    // The most tracks of a board.
-    pub const MOST: usize = 256;
+    pub const MOST: usize = kinds::Track::MOST;
 
     pub(crate) fn new(affected: bool, limited: bool, room: u32) -> Track
         ensures { λ r. ⌜ r ≡ trackAt affected limited room ⌝ }

@@ -1,9 +1,9 @@
 // The walks over the call's own lists: what refuses them, each track's rest at the start, and its gain at the end.
 use crate::limits::Track;
-use crate::rests::less;
+use rounds::less;
 ghost use mathlib.Core.Path.{_≡_};
 ghost use Rattle.fill.specs.Rule.{tracksOf, firstOver, listsFit};
-ghost use Rattle.fill.specs.Rests.{caps, lost};
+ghost use Rattle.rounds.specs.Rests.{caps, lost};
 ghost use Rattle.fill.specs.Demand.{OneLength};
 
 // The four lengths are one, and no more than a board has tracks.

@@ -7,7 +7,7 @@ use native.Mathlib.Omega.{arith}
 use lib.Dec.{ltb}
 use lib.ListN.{length, length-take, length-drop}
 use Rattle.laws.specs.Lists.{some, keep, inTurn, All}
-use Rattle.fill.specs.Rule.{mostTracks, mostDots}
+use Rattle.rounds.specs.Rule.{mostTracks, mostDots}
 use Rattle.kinds.specs.Kinds.{constraintNumber}
 use Rattle.kinds.specs.declared.space.Constraint.{Constraint}
 use Rattle.kinds.specs.declared.space.Constraint.the-variants.{Definite, MinContent, MaxContent}

@@ -7,7 +7,7 @@ use mathlib.Core.List.{List, [], _∷_, map}
 use lib.Dec.{ltb}
 use lib.ListN.{length}
 use Rattle.laws.specs.Lists.{inTurn}
-use Rattle.fill.specs.Rule.{mostTracks, mostDots}
+use Rattle.rounds.specs.Rule.{mostTracks, mostDots}
 use Rattle.kinds.specs.Kinds.{Row}
 use Rattle.kinds.specs.declared.space.Constraint.{Constraint}
 use Rattle.kinds.specs.declared.space.Constraint.the-variants.{Definite, MinContent, MaxContent}

@@ -13,7 +13,7 @@ pub use search::search_over;
 ghost use mathlib.Core.Path.{_≡_};
 ghost use Prim.Native.Nat.{_≤_};
 ghost use lib.ListN.{length};
-ghost use Rattle.fill.specs.Rule.{mostDots};
+ghost use Rattle.rounds.specs.Rule.{mostDots};
 ghost use Rattle.kinds.specs.Kinds.{constraintNumber};
 ghost use Rattle.lines.specs.Rule.{bases, expand};
 ghost use Rattle.lines.specs.Rows.{linesOf};

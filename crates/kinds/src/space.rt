@@ -66,7 +66,7 @@ pub struct Space {
 
 impl Space {
     // The most dots of a space.
-    pub const MOST: u32 = fill::Space::MOST;
+    pub const MOST: u32 = 16_777_215;
 
     // The space that a row says; one without fault says no other.
     pub fn of_row(row: [u32; 5]) -> Space

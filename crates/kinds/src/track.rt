@@ -87,7 +87,7 @@ pub struct Track {
 
 impl Track {
     // The most tracks of a board.
-    pub const MOST: usize = fill::Track::MOST;
+    pub const MOST: usize = 256;
     // The largest fixed size and fit-content argument.
     pub const MOST_SIZE: u32 = 65_535;
     // The largest flex factor, in thousandths.

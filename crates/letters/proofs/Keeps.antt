@@ -13,9 +13,9 @@ use lib.Seq.{getD-take, getD-drop}
 use Rattle.laws.specs.Tests.{lt-or-ge}
 use Rattle.laws.specs.Lists.{larger, largerFrom, inTurn, All, all-at, length-zip}
 use Rattle.laws.specs.Sums.{sum, getD-le-sum}
-use Rattle.fill.specs.Rule.{gainsOf, fill}
-use Rattle.fill.proofs.Tied.{Fresh}
-use Rattle.fill.proofs.Fresh.{gain-add-left-le, length-gains}
+use Rattle.rounds.specs.Rule.{gainsOf, fill}
+use Rattle.rounds.proofs.Tied.{Fresh}
+use Rattle.rounds.proofs.Fresh.{gain-add-left-le, length-gains}
 use Rattle.kinds.specs.Kinds.{Row}
 use Rattle.kinds.specs.declared.space.Constraint.{Constraint}
 use Rattle.checks.specs.Rule.{mostSize, mostContribution}

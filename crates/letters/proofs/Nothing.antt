@@ -9,9 +9,9 @@ use lib.ListN.{length, replicate, length-map}
 use Rattle.laws.specs.Lists.{some, All, length-zip}
 use Rattle.laws.specs.Marks.{number}
 use Rattle.laws.specs.Runs.{runs-stop}
-use Rattle.fill.specs.Rule.{Track, gainsOf, opens, more, round, Fill, fillOf, fill}
-use Rattle.fill.proofs.Tied.{Fresh}
-use Rattle.fill.proofs.Fresh.{length-gains}
+use Rattle.rounds.specs.Rule.{Track, gainsOf, opens, more, round, Fill, fillOf, fill}
+use Rattle.rounds.proofs.Tied.{Fresh}
+use Rattle.rounds.proofs.Fresh.{length-gains}
 use Rattle.lines.specs.declared.line.Line.{Line}
 use Rattle.lines.specs.Rule.{firstTrack, restTrack, moreGains, shareRest, shares}
 use Rattle.lines.specs.Rule as rule

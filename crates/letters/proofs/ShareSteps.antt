@@ -6,8 +6,8 @@ use Prim.Native.Nat.{ℕ, zero, suc, _+_, _-_, _≤_, _<_}
 use native.Mathlib.Nat.{le-of-suc-le-suc, not-suc-le-zero}
 use lib.ListN.{length, getD, drop}
 use Rattle.laws.specs.Walk.{next}
-use Rattle.fill.specs.Rule as fill
-use Rattle.fill.specs.Rests.{capOf, caps, lost}
+use Rattle.rounds.specs.Rule as fill
+use Rattle.rounds.specs.Rests.{capOf, caps, lost}
 use Rattle.kinds.specs.Kinds.{Row}
 use Rattle.lines.specs.declared.line.Line.{Line}
 use Rattle.lines.specs.Rule as rule

@@ -9,13 +9,13 @@ use lib.ListN.{length, getD, replicate, length-map}
 use Rattle.laws.specs.Lists.{some, All}
 use Rattle.laws.specs.Alls.{image-all}
 use Rattle.laws.specs.Marks.{bit}
-use Rattle.fill.specs.Rule.{mostDots, gainsOf, Fill, fill}
-use Rattle.fill.specs.Rule as fill
-use Rattle.fill.specs.Rests.{capIn, capOf, caps, takeEach, takeMarked, lost, State, stateOf, fillRests}
-use Rattle.fill.proofs.OpenMarks.{Among, one, odd-among}
-use Rattle.fill.proofs.Level.{fill-level}
-use Rattle.fill.proofs.Tied.{Fresh}
-use Rattle.fill.proofs.Fresh.{gain-add-left-le, lost-is-gains, left-is-left, rounds-are-rounds}
+use Rattle.rounds.specs.Rule.{mostDots, gainsOf, Fill, fill}
+use Rattle.rounds.specs.Rule as fill
+use Rattle.rounds.specs.Rests.{capIn, capOf, caps, takeEach, takeMarked, lost, State, stateOf, fillRests}
+use Rattle.rounds.proofs.OpenMarks.{Among, one, odd-among}
+use Rattle.rounds.proofs.Level.{fill-level}
+use Rattle.rounds.proofs.Tied.{Fresh}
+use Rattle.rounds.proofs.Fresh.{gain-add-left-le, lost-is-gains, left-is-left, rounds-are-rounds}
 use Rattle.kinds.specs.Kinds.{Row, maximumNumber}
 use Rattle.kinds.specs.declared.track.Maximum.{Maximum}
 use Rattle.kinds.specs.declared.track.Maximum.the-variants as maximum

@@ -2,7 +2,7 @@
 use Prim.Native.Nat.{ℕ}
 use mathlib.Core.Bool.{Bool, not, _&&_, _||_}
 use mathlib.Core.List.{List, zipWith}
-use Rattle.fill.specs.Rule as fill
+use Rattle.rounds.specs.Rule as fill
 use Rattle.lines.specs.declared.line.Line.{Line}
 use Rattle.lines.specs.Rule.{inFill, maximiseTrack, stretchTrack}
 use Rattle.lines.specs.Rule as rule

@@ -11,7 +11,7 @@ ghost use mathlib.Core.List.{map};
 ghost use Prim.Native.Nat.{ℕ, _-_, _≤_};
 ghost use lib.ListN.{length};
 ghost use Rattle.laws.specs.Sums.{sum};
-ghost use Rattle.fill.specs.Rule.{mostTracks};
+ghost use Rattle.rounds.specs.Rule.{mostTracks};
 ghost use Rattle.lines.specs.Rule.{maxima, limited, forAuto, extraOf};
 ghost use Rattle.lines.specs.Rows.{linesOf};
 ghost use Rattle.lines.specs.Fits.{LinesFit};

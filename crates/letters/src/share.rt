@@ -1,8 +1,8 @@
 // Shares of dots among lines: each gets what the fill gives it, on top of the gain that it has. The two shares of a letter find
 // each cap once, and keep it in the gain while the rounds run. The rests are scratch: what stands in them is not read.
 use crate::letter::Letter;
-use fill::Rounds;
-use fill::run_rounds;
+use rounds::Rounds;
+use rounds::run_rounds;
 use kinds::Maximum;
 use lines::Limit;
 use lines::Line;
@@ -13,8 +13,8 @@ ghost use mathlib.Core.List.{[], _∷_, map, zipWith};
 ghost use Prim.Native.Nat.{ℕ, _+_, _≤_};
 ghost use lib.ListN.{length, getD};
 ghost use Rattle.laws.specs.Lists.{some};
-ghost use Rattle.fill.specs.Rule.{mostTracks, mostDots, gainsOf, fill};
-ghost use Rattle.fill.specs.Rests.{capIn, capOf, caps, lost};
+ghost use Rattle.rounds.specs.Rule.{mostTracks, mostDots, gainsOf, fill};
+ghost use Rattle.rounds.specs.Rests.{capIn, capOf, caps, lost};
 ghost use Rattle.lines.specs.Rule.{maxIn, firstTrack, moreGains, shares};
 ghost use Rattle.lines.specs.Rows.{linesOf, roomOf};
 ghost use Rattle.lines.specs.Fits.{LinesFit};

@@ -5,7 +5,7 @@ use lines::Line;
 ghost use mathlib.Core.Path.{_≡_};
 ghost use Prim.Native.Nat.{_+_, _-_, _≤_};
 ghost use lib.ListN.{length};
-ghost use Rattle.fill.specs.Rule.{mostTracks};
+ghost use Rattle.rounds.specs.Rule.{mostTracks};
 ghost use Rattle.lines.specs.Rows.{linesOf};
 ghost use Rattle.letters.specs.Totals.{tallied, totalIn};
 

@@ -8,11 +8,11 @@ use lib.ListN.{getD}
 use Rattle.laws.specs.Lists.{All}
 use Rattle.laws.specs.Alls.{all-image, image-all}
 use Rattle.laws.specs.Tests.{never}
-use Rattle.fill.specs.Rule.{fill}
-use Rattle.fill.specs.Rule as fill
-use Rattle.fill.specs.Rests.{capIn, caps}
-use Rattle.fill.proofs.Tied.{Fresh}
-use Rattle.fill.proofs.Fresh.{gain-le-cap}
+use Rattle.rounds.specs.Rule.{fill}
+use Rattle.rounds.specs.Rule as fill
+use Rattle.rounds.specs.Rests.{capIn, caps}
+use Rattle.rounds.proofs.Tied.{Fresh}
+use Rattle.rounds.proofs.Fresh.{gain-le-cap}
 use Rattle.kinds.specs.declared.space.Constraint.{Constraint}
 use Rattle.kinds.specs.declared.space.Constraint.the-variants.{Definite, MinContent, MaxContent}
 use Rattle.checks.specs.Rule.{mostSize}

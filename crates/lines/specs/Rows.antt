@@ -4,7 +4,7 @@ use mathlib.Core.Bool.{cond}
 use mathlib.Core.List.{List, map}
 use lib.Dec.{eqb}
 use lib.ListN.{getD}
-use Rattle.fill.specs.Rule.{Room, upTo, noLimit}
+use Rattle.rounds.specs.Rule.{Room, upTo, noLimit}
 use Rattle.kinds.specs.Kinds.{Row, trackOf}
 use Rattle.lines.specs.declared.limit.Limit.{Limit}
 use Rattle.lines.specs.declared.limit.Limit.the-variants.{None, UpTo}

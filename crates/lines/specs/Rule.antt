@@ -9,8 +9,8 @@ use lib.ListN.{length, take, drop, replicate}
 use lib.IntN.{ℤ, subℕ}
 use Rattle.laws.specs.Lists.{among, upFrom, keep, some, every, changeAt, inTurn, largerFrom}
 use Rattle.laws.specs.Sums.{sum}
-use Rattle.fill.specs.Rule.{Room, upTo, noLimit, Fill, fill, gainsOf}
-use Rattle.fill.specs.Rule as fill
+use Rattle.rounds.specs.Rule.{Room, upTo, noLimit, Fill, fill, gainsOf}
+use Rattle.rounds.specs.Rule as fill
 use Rattle.kinds.specs.Kinds.{minimumTag, maximumTag, maximumNumber, amountAt}
 use Rattle.kinds.specs.declared.amount.Amount.{Amount}
 use Rattle.kinds.specs.declared.amount.Amount.the-variants.{Absent, Given}

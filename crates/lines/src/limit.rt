@@ -1,7 +1,7 @@
 // A growth limit, or a room: so many dots, or none, which is a case of its own and no number.
 ghost use mathlib.Core.Path.{_≡_};
 ghost use Prim.Native.Nat.{_+_, _-_, min, max};
-ghost use Rattle.fill.specs.Rests.{capIn};
+ghost use Rattle.rounds.specs.Rests.{capIn};
 ghost use Rattle.lines.specs.Rule.{cut, cutLimit, roomTo, orBase, atLeast, limitWith};
 ghost use Rattle.lines.specs.Rows.{limitOf, roomOf};
 

@@ -10,7 +10,7 @@ use Rattle.laws.specs.Marks.{number}
 use Rattle.laws.specs.Runs.{runs}
 use Rattle.laws.specs.Sums.{sum}
 use Rattle.laws.specs.Lists.{among, upFrom, keep, some, every, changeAt, inTurn, larger, largerFrom}
-use Rattle.fill.specs.Rule.{Room, upTo, noLimit, Track, gainsOf, opens, leastRoom, oddTakers, handOut, Fill, round, more, fill}
+use Rattle.rounds.specs.Rule.{Room, upTo, noLimit, Track, gainsOf, opens, leastRoom, oddTakers, handOut, Fill, round, more, fill}
 use Rattle.sheet.specs.Rule.{isIn, rowAt, rowsAt, recordSize, taggedFault, rowFault, recordsFault, sheetFault, sheetAt}
 use Rattle.checks.specs.Rule.{lowest, firstOf, recordFault}
 use Rattle.board.specs.Rule.{BoardTold, BoardOutcome, boardCall}

@@ -7,7 +7,7 @@ use mathlib.Core.List.{List}
 use lib.Dec.{leb}
 use lib.ListN.{length, drop}
 use borrow.Author.Tests.{leb-true, eqb-true}
-use Rattle.fill.specs.Rule.{mostTracks}
+use Rattle.rounds.specs.Rule.{mostTracks}
 use Rattle.rows.specs.Shapes.{AreBytes}
 use Rattle.records.proofs.Firsts.{fine-both, fine-test}
 use Rattle.rows.proofs.Stands.{Stands, stands-join, two-stands, rows-stand, length-rowsAt, width, width-rowAt}

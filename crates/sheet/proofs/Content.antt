@@ -6,7 +6,7 @@ use native.Mathlib.Omega.{arith}
 use mathlib.Core.List.{List, [], _∷_, _++_, append-assoc, append-nil}
 use lib.ListN.{length, getD, length-append}
 use borrow.Author.Tests.{le-leb, leb-true}
-use Rattle.fill.specs.Rule.{mostTracks}
+use Rattle.rounds.specs.Rule.{mostTracks}
 use Rattle.rows.specs.Shapes.{EachLong}
 use Rattle.records.proofs.Firsts.{first-fine, first-where, fine-both, le-of-count-fine}
 use Rattle.rows.proofs.Stands.{Stands, stands-front, stands-next, width}

@@ -8,7 +8,7 @@ use lib.Dec.{leb, eqb}
 use lib.ListN.{length, take, length-append, List·getD-append}
 use lib.Seq.{length-take-le, getD-take}
 use borrow.Author.Tests.{le-leb}
-use Rattle.fill.specs.Rule.{mostTracks}
+use Rattle.rounds.specs.Rule.{mostTracks}
 use Rattle.sheet.specs.Rule.{byteAt, twoAt, fine, fault, first, unless, recordSize, trackRecord, itemRecord, mostItems, tracksAt, itemsAt, sheetEnd, sheetFault, EndTold, endAt, endAs, endCall}
 use Rattle.sheet.proofs.Looks.{whole-fine}
 use Rattle.sheet.proofs.Accepted.{accepted}

@@ -5,7 +5,7 @@ use mathlib.Core.List.{List}
 use lib.Dec.{leb}
 use lib.ListN.{length}
 use borrow.Author.Tests.{leb-true}
-use Rattle.fill.specs.Rule.{mostTracks}
+use Rattle.rounds.specs.Rule.{mostTracks}
 use Rattle.records.specs.Answer.{refusalFault}
 use Rattle.records.specs.declared.refusal.Refusal.{Refusal}
 use Rattle.records.proofs.Firsts.{fine-both, fine-test}

@@ -6,7 +6,7 @@ use native.Mathlib.Omega.{arith}
 use mathlib.Core.List.{List, [], _∷_}
 use lib.Dec.{leb, eqb}
 use lib.ListN.{length}
-use Rattle.fill.specs.Rule.{mostTracks}
+use Rattle.rounds.specs.Rule.{mostTracks}
 use Rattle.sheet.specs.Rule.{Part, tagged, mark, pair, Row, Tags, Fault, fine, fault, first, unless, isIn, taggedFault, rowFault, recordSize, trackRecord, itemRecord, mostItems, tracksAt}
 use Rattle.sheet.specs.Content.{rowsFault, itemsAfter, contentFault}
 

@@ -5,7 +5,7 @@ use Prim.Native.Nat.{ℕ, _+_, _*_, _≤_}
 use mathlib.Core.List.{List, [], _∷_, _++_}
 use lib.Dec.{leb}
 use lib.ListN.{length}
-use Rattle.fill.specs.Rule.{mostTracks}
+use Rattle.rounds.specs.Rule.{mostTracks}
 use Rattle.rows.specs.Shapes.{EachLong}
 use Rattle.sheet.specs.Rule.{Part, Row, recordSize, twoBytes, rowsBytes, rowFault, trackRecord, itemRecord, mostItems, tracksAt, Fault, fine, fault, first, unless}
 

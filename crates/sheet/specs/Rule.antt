@@ -6,7 +6,7 @@ use mathlib.Core.Bool.{Bool}
 use mathlib.Core.List.{List, _++_}
 use lib.Dec.{leb, eqb}
 use lib.ListN.{length, drop}
-use Rattle.fill.specs.Rule.{mostTracks}
+use Rattle.rounds.specs.Rule.{mostTracks}
 pub use Rattle.records.specs.Rule.{byteAt, twoAt, fourAt, Tags, tags, constraintTags, givenTags, minimumTags, maximumTags, stretchBytes, Part, tagged, mark, pair, partSize, spaceRecord, trackRecord, itemRecord, Row, Fault, fine, fault, first, unless}
 unfoldable pub use Rattle.records.specs.Rule.{twoBytes, fourBytes, recordSize, rowAt, rowBytes, rowsAt, rowsBytes, isIn, taggedFault, rowFault}
 

@@ -12,7 +12,7 @@ ghost use mathlib.Core.Path.{_≡_};
 ghost use Prim.Native.Nat.{_+_, _*_, _≤_};
 ghost use lib.ListN.{length};
 ghost use Rattle.laws.specs.Put.{put};
-ghost use Rattle.fill.specs.Rule.{mostTracks};
+ghost use Rattle.rounds.specs.Rule.{mostTracks};
 ghost use Rattle.records.specs.Answer.{faultOf, lastPlace};
 ghost use Rattle.rows.specs.Shapes.{EachLong};
 ghost use Rattle.sheet.specs.Rule.{trackRecord, itemRecord, rowsBytes, mostItems, tracksAt, sheetBytes, fine, first, enough, onto, writeCall};

@@ -8,10 +8,10 @@ use lib.ListN.{length}
 use Rattle.laws.specs.Lists.{All}
 use Rattle.laws.specs.Alls.{image-all}
 use Rattle.laws.specs.Sums.{sum}
-use Rattle.fill.specs.Rule.{gainsOf, fill}
-use Rattle.fill.specs.Rule as fill
-use Rattle.fill.proofs.Tied.{Fresh}
-use Rattle.fill.proofs.Fresh.{sum-gains-add-left}
+use Rattle.rounds.specs.Rule.{gainsOf, fill}
+use Rattle.rounds.specs.Rule as fill
+use Rattle.rounds.proofs.Tied.{Fresh}
+use Rattle.rounds.proofs.Fresh.{sum-gains-add-left}
 use Rattle.lines.specs.declared.line.Line.{Line}
 use Rattle.kinds.specs.declared.space.Constraint.the-variants.{Definite}
 use Rattle.lines.specs.Rule.{bases, grownBase, stretchTrack, stretched}

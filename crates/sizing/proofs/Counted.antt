@@ -6,9 +6,9 @@ use Prim.Native.Nat.{ℕ, _-_}
 use lib.ListN.{length, length-map}
 use Rattle.laws.specs.Lists.{upFrom, keep, inTurn, length-zip}
 use Rattle.laws.specs.Alls.{image-all}
-use Rattle.fill.specs.Rule.{gainsOf, fill}
-use Rattle.fill.specs.Rule as fill
-use Rattle.fill.proofs.Fresh.{length-gains}
+use Rattle.rounds.specs.Rule.{gainsOf, fill}
+use Rattle.rounds.specs.Rule as fill
+use Rattle.rounds.proofs.Fresh.{length-gains}
 use Rattle.kinds.specs.declared.item.Item.{Item}
 use Rattle.kinds.specs.declared.space.Constraint.{Constraint}
 use Rattle.kinds.specs.declared.space.Constraint.the-variants.{Definite, MinContent, MaxContent}

@@ -10,8 +10,8 @@ use Rattle.laws.specs.Tests.{never}
 use Rattle.laws.specs.Lists.{length-zip}
 use Rattle.laws.specs.Alls.{all-image-at}
 use Rattle.laws.specs.Sums.{sum}
-use Rattle.fill.specs.Rule.{mostDots, gainsOf, Fill, fill}
-use Rattle.fill.proofs.Fresh.{gain-add-left-le, length-gains}
+use Rattle.rounds.specs.Rule.{mostDots, gainsOf, Fill, fill}
+use Rattle.rounds.proofs.Fresh.{gain-add-left-le, length-gains}
 use Rattle.kinds.specs.Kinds.{Row}
 use Rattle.kinds.specs.declared.space.Constraint.{Constraint}
 use Rattle.kinds.specs.declared.space.Constraint.the-variants.{Definite, MinContent, MaxContent}

@@ -6,7 +6,7 @@ use native.Mathlib.Omega.{arith}
 use lib.ListN.{length}
 use Rattle.laws.specs.Lists.{All, keep}
 use Rattle.laws.specs.Alls.{all-map}
-use Rattle.fill.specs.Rule.{mostTracks, mostDots}
+use Rattle.rounds.specs.Rule.{mostTracks, mostDots}
 use Rattle.kinds.specs.Kinds.{constraintNumber}
 use Rattle.kinds.specs.declared.space.Constraint.{Constraint}
 use Rattle.kinds.specs.declared.space.Space.{Space}

@@ -11,7 +11,7 @@ use mir.Syntax.{w32}
 use mir.Val.{toZ, ofZ}
 use mir.Facts.{toZ-ofZ}
 use Rattle.laws.specs.Sums.{sum}
-use Rattle.fill.specs.Rule.{mostTracks, mostDots}
+use Rattle.rounds.specs.Rule.{mostTracks, mostDots}
 use Rattle.kinds.specs.Kinds.{constraintNumber, amountNumber}
 use Rattle.kinds.specs.declared.amount.Amount.{Amount}
 use Rattle.kinds.specs.declared.amount.Amount.the-variants.{Absent, Given}

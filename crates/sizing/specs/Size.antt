@@ -2,7 +2,7 @@
 use Prim.Native.Nat.{ℕ, _+_, _≤_}
 use mathlib.Core.List.{List, map}
 use lib.ListN.{length}
-use Rattle.fill.specs.Rule.{mostTracks}
+use Rattle.rounds.specs.Rule.{mostTracks}
 use Rattle.kinds.specs.Kinds.{Row, trackOf, itemOf}
 use Rattle.kinds.specs.declared.space.Space.{Space}
 use Rattle.checks.specs.Sound.{Sound}

@@ -11,7 +11,7 @@ use lines::pass_over;
 ghost use mathlib.Core.Path.{_≡_};
 ghost use Prim.Native.Nat.{_≤_};
 ghost use lib.ListN.{length, replicate};
-ghost use Rattle.fill.specs.Rule.{mostTracks, mostDots, fill};
+ghost use Rattle.rounds.specs.Rule.{mostTracks, mostDots, fill};
 ghost use Rattle.kinds.specs.Kinds.{constraintNumber};
 ghost use Rattle.lines.specs.Rule.{filledLines, maximise, stretched};
 ghost use Rattle.lines.specs.Rows.{linesOf};

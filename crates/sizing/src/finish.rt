@@ -13,7 +13,7 @@ ghost use mathlib.Core.Path.{_≡_};
 ghost use mathlib.Core.List.{map};
 ghost use Prim.Native.Nat.{_≤_};
 ghost use lib.ListN.{length, replicate};
-ghost use Rattle.fill.specs.Rule.{mostTracks, mostDots};
+ghost use Rattle.rounds.specs.Rule.{mostTracks, mostDots};
 ghost use Rattle.kinds.specs.Kinds.{constraintNumber};
 ghost use Rattle.lines.specs.Rule.{expansion, freeOf, placeOf};
 ghost use Rattle.lines.specs.Rows.{linesOf};

@@ -6,7 +6,7 @@ use native.Mathlib.Omega.{arith}
 use lib.ListN.{length, getD, take, drop, set, length-map}
 use Rattle.laws.specs.Lists.{All, inTurn}
 use Rattle.laws.specs.Alls.{all-image-at}
-use Rattle.fill.specs.Rule.{mostTracks}
+use Rattle.rounds.specs.Rule.{mostTracks}
 use Rattle.kinds.specs.Kinds.{Row}
 use Rattle.kinds.specs.declared.space.Constraint.{Constraint}
 use Rattle.lines.specs.declared.limit.Limit.{Limit}

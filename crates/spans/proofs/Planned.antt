@@ -9,7 +9,7 @@ use lib.ListN.{length, getD, take, drop, replicate, length-take, length-drop, le
 use lib.Seq.{take-at}
 use Rattle.laws.specs.Lists.{some, larger, largerFrom}
 use Rattle.laws.specs.Sums.{sum}
-use Rattle.fill.specs.Rule.{mostTracks, mostDots}
+use Rattle.rounds.specs.Rule.{mostTracks, mostDots}
 use Rattle.kinds.specs.Kinds.{Row}
 use Rattle.kinds.specs.declared.space.Constraint.{Constraint}
 use Rattle.lines.specs.declared.line.Line.{Line}

@@ -16,7 +16,7 @@ ghost use mathlib.Core.Bool.{false};
 ghost use Prim.Native.Nat.{ℕ, _-_, _≤_, _<_};
 ghost use lib.ListN.{length, getD, replicate};
 ghost use Rattle.laws.specs.Lists.{inTurn, upFrom};
-ghost use Rattle.fill.specs.Rule.{mostTracks};
+ghost use Rattle.rounds.specs.Rule.{mostTracks};
 ghost use Rattle.kinds.specs.Kinds.{itemOf};
 ghost use Rattle.lines.specs.Rule.{complete, increasedBy, raise, batched};
 ghost use Rattle.lines.specs.Rows.{linesOf};

@@ -23,7 +23,7 @@ ghost use Rattle.lines.specs.Rule.{baseAsked, limitAsked, complete, withItemAt,
 ghost use Rattle.lines.specs.Rows.{linesOf};
 ghost use Rattle.lines.specs.Fits.{LinesFit, MeasuredFits, MeasuredFit};
 ghost use Rattle.lines.specs.Chains.{chained, ChainFits};
-ghost use Rattle.fill.specs.Rule.{mostTracks};
+ghost use Rattle.rounds.specs.Rule.{mostTracks};
 ghost use Rattle.kinds.specs.Kinds.{itemOf};
 
 // What an item asks of the base; `own` is the one line of the item's track.

@@ -6,7 +6,7 @@ use Prim.Native.Nat.{_+_, _-_, _≤_}
 use lib.ListN.{length, take, drop}
 use Rattle.laws.specs.Walk.{store-step, store-end}
 use Rattle.fill.specs.Rule.{tracksOf}
-use Rattle.fill.specs.Rests.{caps, lost}
+use Rattle.rounds.specs.Rests.{caps, lost}
 use Rattle.fill.specs.Answer.{capAt}
 use Rattle.fill.proofs.Turns.{tracksFrom, lost-step, caps-end}
 use Rattle.fill.proofs.lists.settle.Statement.{statement}

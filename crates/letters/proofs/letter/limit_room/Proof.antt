@@ -4,7 +4,7 @@ use Rattle.letters.proofs.letter.limit_room.Statement.{statement}
 use mathlib.Core.Path.{sym, ap, ap₂, _∙_}
 use mathlib.Core.Bool.{Bool, cond, _||_}
 use Prim.Native.Nat.{ℕ}
-use Rattle.fill.specs.Rule.{upTo}
+use Rattle.rounds.specs.Rule.{upTo}
 use Rattle.lines.specs.declared.limit.Limit.{Limit}
 use Rattle.lines.specs.Rule.{isNone, argument, limitSize, roomTo}
 use Rattle.letters.proofs.Grown.{room-of-growable}

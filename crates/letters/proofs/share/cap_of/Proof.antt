@@ -3,7 +3,7 @@ use borrow.Author.Needs.{needs}
 use Rattle.letters.proofs.share.cap_of.Statement.{statement}
 use mathlib.Core.Path.{sym, ap, _∙_}
 use mathlib.Core.Bool.{Bool, cond}
-use Rattle.fill.specs.Rests.{capIn}
+use Rattle.rounds.specs.Rests.{capIn}
 use Rattle.lines.specs.Rows.{roomOf}
 use Rattle.letters.proofs.share.cap_of.Tie as tie
 

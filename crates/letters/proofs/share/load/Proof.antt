@@ -6,7 +6,7 @@ use mathlib.Core.List.{List, _++_}
 use Prim.Native.Nat.{ℕ, _+_, _-_, _≤_, zero-le}
 use lib.ListN.{length, take, length-set}
 use Rattle.laws.specs.Walk.{store-step, store-end}
-use Rattle.fill.specs.Rests.{capOf}
+use Rattle.rounds.specs.Rests.{capOf}
 use Rattle.lines.specs.declared.line.Line.{Line}
 use Rattle.letters.specs.Shares.{trackIn}
 use Rattle.letters.proofs.ShareSteps.{capsFrom, caps-step, caps-end}

@@ -6,7 +6,7 @@ use mathlib.Core.List.{_++_}
 use Prim.Native.Nat.{_+_, _-_, _≤_, zero-le}
 use lib.ListN.{length, take, drop, length-set}
 use Rattle.laws.specs.Walk.{store-step, store-end}
-use Rattle.fill.specs.Rests.{lost}
+use Rattle.rounds.specs.Rests.{lost}
 use Rattle.letters.proofs.ShareSteps.{lostFrom, lost-step, lost-nil}
 use Rattle.letters.proofs.share.take_off.Tie as tie
 

@@ -4,7 +4,7 @@ use mathlib.Core.Path.{_≡_, ap, _∙_, subst}
 use Prim.Native.Nat.{_≤_}
 use native.Mathlib.Omega.{arith}
 use lib.ListN.{length}
-use Rattle.fill.specs.Rule.{mostTracks}
+use Rattle.rounds.specs.Rule.{mostTracks}
 use Rattle.records.proofs.Firsts.{le-of-count-fine}
 use Rattle.sheet.specs.Rule.{tracksAt, fine}
 use Rattle.sheet.specs.Content.{tracksFault, itemsFault, ItemsLooked}

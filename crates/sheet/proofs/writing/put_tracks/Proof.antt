@@ -5,7 +5,7 @@ use Prim.Native.Nat.{_+_, _≤_}
 use native.Mathlib.Omega.{arith}
 use lib.ListN.{length}
 use Rattle.laws.specs.Put.{put-then}
-use Rattle.fill.specs.Rule.{mostTracks}
+use Rattle.rounds.specs.Rule.{mostTracks}
 use Rattle.records.proofs.Firsts.{le-of-count-fine}
 use Rattle.sheet.specs.Rule.{tracksAt, trackRecord, rowsBytes, twoBytes, fine}
 use Rattle.sheet.specs.Content.{rowsFault}

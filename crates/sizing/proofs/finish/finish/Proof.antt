@@ -6,7 +6,7 @@ use mathlib.Core.List.{map}
 use Prim.Native.Nat.{_≤_}
 use native.Mathlib.Omega.{arith}
 use lib.ListN.{length, length-map}
-use Rattle.fill.specs.Rule.{mostDots}
+use Rattle.rounds.specs.Rule.{mostDots}
 use Rattle.kinds.specs.Kinds.{constraintNumber}
 use Rattle.kinds.specs.declared.space.Constraint.{Constraint}
 use Rattle.lines.specs.Rule.{bases, expansion, freeOf, placeOf}

@@ -3,8 +3,8 @@ use borrow.Author.Needs.{needs}
 use Rattle.letters.proofs.share.Share.cap.Statement.{statement}
 use mathlib.Core.Path.{sym, ap, _∙_}
 use mathlib.Core.Bool.{Bool, cond}
-use Rattle.fill.specs.Rule.{Room}
-use Rattle.fill.specs.Rests.{capIn, capOf}
+use Rattle.rounds.specs.Rule.{Room}
+use Rattle.rounds.specs.Rests.{capIn, capOf}
 use Rattle.letters.specs.declared.share.Share.{Share}
 use Rattle.letters.specs.Shares.{trackIn}
 use Rattle.letters.proofs.share.Share.cap.Tie as tie

@@ -3,7 +3,7 @@ use Rattle.lines.proofs.limit.Limit.room_above.Statement.{statement}
 use mathlib.Core.Path.{_≡_, sym, ap, _∙_}
 use Prim.Native.Nat.{ℕ, _+_, _-_}
 use native.Mathlib.Nat.{sub-add-eq}
-use Rattle.fill.specs.Rule.{upTo}
+use Rattle.rounds.specs.Rule.{upTo}
 use Rattle.lines.specs.declared.limit.Limit.{Limit}
 use Rattle.lines.specs.Rule.{roomTo}
 use Rattle.lines.proofs.limit.Limit.room_above.Tie as tie

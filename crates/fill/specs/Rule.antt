@@ -1,7 +1,7 @@
 -- The fill called by itself: what refuses it, and what it leaves. This page follows the build paper's refusals of a fill. The fill
 -- has the page before it, `crates/rounds/specs/Rule.antt`, whose names it hands on. It assumes nothing of the code and it computes.
 use Prim.Native.Nat.{ℕ, suc, _+_}
-use mathlib.Core.Bool.{Bool, cond, not, _&&_}
+use mathlib.Core.Bool.{Bool, false, cond, not, _&&_}
 use mathlib.Core.List.{List, [], _∷_}
 use lib.Dec.{ltb, leb, eqb}
 use lib.ListN.{length}

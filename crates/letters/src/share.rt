@@ -1,12 +1,12 @@
 // Shares of dots among lines: each gets what the fill gives it, on top of the gain that it has. The two shares of a letter find
 // each cap once, and keep it in the gain while the rounds run. The rests are scratch: what stands in them is not read.
 use crate::letter::Letter;
-use rounds::Rounds;
-use rounds::run_rounds;
 use kinds::Maximum;
 use lines::Limit;
 use lines::Line;
 use lines::less;
+use rounds::Rounds;
+use rounds::run_rounds;
 ghost use mathlib.Core.Path.{_≡_};
 ghost use mathlib.Core.Bool.{cond, not, _&&_, _||_};
 ghost use mathlib.Core.List.{[], _∷_, map, zipWith};

@@ -258,7 +258,7 @@ def refused_by_bytes(c):
     c.add('5 before 4', with_bytes(W12, (7, 0), (12, 9)), want=(5, 8))
     c.add('4 before 2', with_bytes(W12, (41, 9)) + b'\0', want=(4, 41))
     c.add('1 before a look inside', with_bytes(W12, (31, 9))[:45], want=(1, 45))
-    c.add('4 before 1 of a later record', with_bytes(two, (37, 9))[:60], want=(1, 60))
+    c.add('4 before 1 of a later record', with_bytes(two, (41, 9))[:60], want=(4, 41))
     c.add('4 before 1 of the next section', with_bytes(W12, (12, 7))[:14], want=(4, 12))
     c.add('5 before 3 of the next section', with_bytes(W12, (16, 1), (26, 255)), want=(5, 16))
 

@@ -72,7 +72,7 @@ fn print_first(text: &[u8], number: usize, name: usize)
     io::write_all(STDOUT_FILENO, b"\n");
 }
 
-pub fn print_tally(text: &[u8], tally: Tally)
+pub(crate) fn print_tally(text: &[u8], tally: Tally)
     requires { ⌜ (tally .differ ≤ tally .cases) × (tally .name ≤ length (now text)) ⌝ }
 {
     let agree = tally.cases - tally.differ;
@@ -133,7 +133,7 @@ fn print_file_words(fault: Fault) -> bool {
     }
 }
 
-pub fn print_fault(program: &[u8], at: usize, fault: Fault) {
+pub(crate) fn print_fault(program: &[u8], at: usize, fault: Fault) {
     io::write_all(STDERR_FILENO, program);
     io::write_all(STDERR_FILENO, b": byte ");
     io::print_decimal(STDERR_FILENO, at as u64);

@@ -1,8 +1,9 @@
 // The walk over the cases of the text, with the counts of those that agree and differ.
+ghost use mathlib.Core.Path.{_≡_};
 ghost use Prim.Native.Nat.{_+_, _≤_, _<_};
 ghost use lib.ListN.{length};
 ghost use Rattle.texts.specs.Reading.{Onward};
-ghost use Rattle.cases.specs.Walking.{Walking};
+ghost use Rattle.cases.specs.Walking.{Walking, isClean};
 use crate::report::Tally;
 use crate::report::print_fault;
 use crate::report::print_tally;
@@ -85,21 +86,23 @@ impl Walk {
         next_case(text, next.at, tally.counted(checked.agrees, self.at + 1))
     }
 
-    // The counts on standard output, or the fault on standard error.
-    pub fn print(self, program: &[u8], text: &[u8])
+    // The counts on standard output, or the fault on standard error. Answers whether the run was clean.
+    pub fn print(self, program: &[u8], text: &[u8]) -> bool
         requires { ⌜ Walking (now text) self ⌝ }
+        ensures { λ r. ⌜ r ≡ isClean self ⌝ }
     {
         let tally = self.tally;
         let stop = self.stop;
         let fault = stop.fault;
         if !stop.is_going() {
             print_fault(program, stop.at, fault);
-            return;
+            return false;
         }
         if tally.cases == 0 {
             print_fault(program, self.at, Fault::NoCase);
-            return;
+            return false;
         }
         print_tally(text, tally);
+        tally.differ == 0
     }
 }

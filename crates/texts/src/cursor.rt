@@ -1,6 +1,7 @@
 // A place in the text, and the first fault met there. A stopped cursor is handed on as it is, so
 // that reading a case is a row of calls with no branch between them.
 ghost use mathlib.Core.Path.{_≡_};
+ghost use Rattle.texts.specs.Text.{isGoing};
 
 // The faults that only a crate above meets stand here too, since a cursor carries whichever comes first.
 pub enum Fault {
@@ -52,7 +53,9 @@ pub fn stopped(at: usize, fault: Fault) -> Cursor
 }
 
 impl Cursor {
-    pub fn is_going(self) -> bool {
+    pub fn is_going(self) -> bool
+        ensures { λ r. ⌜ r ≡ isGoing (self .fault) ⌝ }
+    {
         let fault = self.fault;
         if let Fault::None = fault { true } else { false }
     }

@@ -1,8 +1,9 @@
 // One number or one mark of the text, after the blanks and line ends before it; and how often what follows is repeated.
 ghost use mathlib.Core.Path.{_≡_};
-ghost use Prim.Native.Nat.{_≤_, _<_};
+ghost use Prim.Native.Nat.{_-_, _≤_, _<_};
 ghost use lib.ListN.{length};
 ghost use Rattle.texts.specs.Reading.{Onward};
+ghost use Rattle.texts.specs.Text.{isEnd};
 use crate::cursor::Cursor;
 use crate::cursor::Fault;
 use crate::cursor::going;
@@ -30,7 +31,9 @@ pub struct Times {
 
 impl Times {
     // How often after the first time.
-    pub fn again(self) -> u32 {
+    pub fn again(self) -> u32
+        ensures { λ r. ⌜ r ≡ self .count - 1 ⌝ }
+    {
         let count = self.count;
         if count > 0 { count - 1 } else { 0 }
     }
@@ -66,7 +69,9 @@ fn decimal(digits: &[u8]) -> u64 {
 }
 
 // A number ends at a blank, a line end or the end of the text.
-pub(crate) fn is_end(text: &[u8], at: usize) -> bool {
+pub(crate) fn is_end(text: &[u8], at: usize) -> bool
+    ensures { λ r. ⌜ r ≡ isEnd (now (text .entry)) at ⌝ }
+{
     if at < text.len() {
         Run::Blanks.has(text[at])
     } else {

@@ -1,7 +1,9 @@
 // Runs of bytes of one kind in the text: blanks and line ends, digits, the rest of a line.
+ghost use mathlib.Core.Path.{_≡_};
 ghost use Prim.Native.Nat.{_≤_};
 ghost use lib.ListN.{length};
 ghost use Rattle.texts.specs.Reading.{Onward};
+ghost use Rattle.texts.specs.Text.{runHas};
 
 pub enum Run {
     Blanks,
@@ -10,7 +12,9 @@ pub enum Run {
 }
 
 impl Run {
-    pub fn has(self, byte: u8) -> bool {
+    pub fn has(self, byte: u8) -> bool
+        ensures { λ r. ⌜ r ≡ runHas self byte ⌝ }
+    {
         match self {
             Run::Blanks => byte == b' ' || byte == b'\n',
             Run::Digits => byte >= b'0' && byte <= b'9',

@@ -88,24 +88,25 @@ pub(crate) fn print_tally(text: &[u8], tally: Tally)
     }
 }
 
-// Answers as io::write_all does.
-fn print_most(most: usize) -> bool {
-    io::write_all(STDERR_FILENO, b"the list has over ");
-    io::print_decimal(STDERR_FILENO, most as u64);
-    io::write_all(STDERR_FILENO, b" entries\n")
+// To standard error. Answers as io::write_all does, and so do the functions that find the words.
+fn say(words: &[u8]) -> bool {
+    io::write_all(STDERR_FILENO, words)
 }
 
-// What is wrong with a number, or else with something larger. Answers as io::write_all does.
+fn print_most(most: usize) -> bool {
+    say(b"the list has over ");
+    io::print_decimal(STDERR_FILENO, most as u64);
+    say(b" entries\n")
+}
+
+// What is wrong with a number, or else with something larger.
 fn print_words(fault: Fault) -> bool {
     match fault {
-        Fault::Number => io::write_all(STDERR_FILENO, b"a number was expected\n"),
-        Fault::Large => io::write_all(STDERR_FILENO, b"the number is over 4294967295\n"),
-        Fault::Mark => io::write_all(STDERR_FILENO, b"0 or 1 was expected\n"),
-        Fault::Times => io::write_all(
-            STDERR_FILENO,
-            b"1 to 4294967295 was expected before the x\n",
-        ),
-        Fault::Call => io::write_all(STDERR_FILENO, b"the number of a call was expected\n"),
+        Fault::Number => say(b"a number was expected\n"),
+        Fault::Large => say(b"the number is over 4294967295\n"),
+        Fault::Mark => say(b"0 or 1 was expected\n"),
+        Fault::Times => say(b"1 to 4294967295 was expected before the x\n"),
+        Fault::Call => say(b"the number of a call was expected\n"),
         _ => print_list_words(fault),
     }
 }
@@ -113,30 +114,27 @@ fn print_words(fault: Fault) -> bool {
 // What is wrong with a list, or else with the file.
 fn print_list_words(fault: Fault) -> bool {
     match fault {
-        Fault::Byte => io::write_all(
-            STDERR_FILENO,
-            b"two digits of 0 to 9 and A to F were expected\n",
-        ),
+        Fault::Byte => say(b"two digits of 0 to 9 and A to F were expected\n"),
         Fault::List(most) => print_most(most),
-        Fault::Over => io::write_all(STDERR_FILENO, b"the list goes on behind its last entry\n"),
+        Fault::Over => say(b"the list goes on behind its last entry\n"),
         _ => print_file_words(fault),
     }
 }
 
 fn print_file_words(fault: Fault) -> bool {
     match fault {
-        Fault::Early => io::write_all(STDERR_FILENO, b"the file ends early\n"),
-        Fault::Case => io::write_all(STDERR_FILENO, b"the # of a case was expected\n"),
-        Fault::NoCase => io::write_all(STDERR_FILENO, b"the file has no case\n"),
-        Fault::TooLong => io::write_all(STDERR_FILENO, b"the file is too long\n"),
+        Fault::Early => say(b"the file ends early\n"),
+        Fault::Case => say(b"the # of a case was expected\n"),
+        Fault::NoCase => say(b"the file has no case\n"),
+        Fault::TooLong => say(b"the file is too long\n"),
         _ => true,
     }
 }
 
 pub(crate) fn print_fault(program: &[u8], at: usize, fault: Fault) {
-    io::write_all(STDERR_FILENO, program);
-    io::write_all(STDERR_FILENO, b": byte ");
+    say(program);
+    say(b": byte ");
     io::print_decimal(STDERR_FILENO, at as u64);
-    io::write_all(STDERR_FILENO, b": ");
+    say(b": ");
     print_words(fault);
 }

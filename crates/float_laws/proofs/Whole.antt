@@ -1,9 +1,10 @@
--- Up to 256 whole f32 sizes of at most 65,535 add, in order, to exactly the whole-number sum: every partial sum stays below 2 ^ 24. Assumes nothing.
+-- Up to 256 whole f32 sizes of at most 65,535 add, in order, to exactly the whole-number sum (`sum-of-sizes-exact`): every partial sum stays below 2 ^ 24.
+-- The numbers summed are the sizes' own values (`size-exact`). Assumes nothing.
 use mathlib.Core.Path.{_≡_, refl, sym, ap, _∙_, subst}
 use mathlib.Core.List.{List, [], _∷_, map}
 use mathlib.Core.Bool.{true, false, not, _&&_, _||_, cond, true≢false}
 use Prim.Native.Nat.{ℕ, zero, suc, _+_, _-_, _*_, _/_, _%_, _^_, _≤_, _<_}
-use native.Mathlib.Nat.{mul-one, mul-comm, mul-assoc, mul-pos, add-mul, zero-mul, one-mul, mul-suc, add-zero, zero-add, le-trans, le-of-eq, le-of-suc-le-suc, div-lt-iff-lt-mul, lt-of-le-of-lt, mul-lt-mul-of-pos-right, lt-suc-self, lt-irrefl, lt-of-lt-of-le, zero-lt-suc}
+use native.Mathlib.Nat.{mul-one, mul-comm, mul-assoc, mul-pos, add-mul, zero-mul, one-mul, mul-suc, add-zero, le-trans, le-of-eq, le-of-suc-le-suc, div-lt-iff-lt-mul, lt-of-le-of-lt, mul-lt-mul-of-pos-right, lt-suc-self, lt-irrefl, lt-of-lt-of-le, zero-lt-suc}
 use native.Mathlib.Omega.{arith}
 use lib.ListN.{length, length-map}
 use lib.IntN.{ℤ, pos}
@@ -42,12 +43,12 @@ add-values f (fin false m e) (fin false n d) a b p q =
     (rw (x, y) (simp (mul-one, add-mul, mul-assoc, mul-comm)))
 
 -- whole numbers up to 2 ^ 24 add to the whole sum, rounded once
-pub add-whole : (a b : ℕ) → a ≤ 2 ^ 24 → b ≤ 2 ^ 24 → add binary32 (whole a) (whole b) ≡ whole (a + b)
+add-whole : (a b : ℕ) → a ≤ 2 ^ 24 → b ≤ 2 ^ 24 → add binary32 (whole a) (whole b) ≡ whole (a + b)
 unfolding ofInt
 add-whole a b p q = add-values binary32 (whole a) (whole b) a b (round-whole binary32 false a p) (round-whole binary32 false b q)
 
 -- -0.0 + n is n, also where n is 0
-pub add-minus-zero-whole : (n : ℕ) → n ≤ 2 ^ 24 → add binary32 minusZero (whole n) ≡ whole n
+add-minus-zero-whole : (n : ℕ) → n ≤ 2 ^ 24 → add binary32 minusZero (whole n) ≡ whole n
 unfolding ofInt add sum neg ofBits
 add-minus-zero-whole n h = first (whole n) (round-whole binary32 false n h)
   where
@@ -140,22 +141,19 @@ whole-sum-le xs l h =
 
 -- ---- the laws
 
--- no size at all: the sum is -0.0
-pub sum-of-none : sumOf [] ≡ minusZero
-sum-of-none = refl
+-- a whole size is exactly its number, which is what `number` stands for in the sum below
+pub size-exact : (x : Float) → WholeSize x → HasValue x false (number x) 1
+unfolding ofInt
+size-exact x h =
+    let a = number-of-size x h in
+    subst (λ (z : Float). HasValue z false (number x) 1) (a .0) (round-whole binary32 false (number x) (le-trans (a .1) (lit≤ tt)))
 
--- one size at least, and 256 at most: the sum is the whole-number sum
-pub sum-of-sizes : (x : Float) (xs : List Float) → length (x ∷ xs) ≤ 256 → All WholeSize (x ∷ xs) → sumOf (x ∷ xs) ≡ whole (wholeSum (x ∷ xs))
+sum-of-sizes : (x : Float) (xs : List Float) → length (x ∷ xs) ≤ 256 → All WholeSize (x ∷ xs) → sumOf (x ∷ xs) ≡ whole (wholeSum (x ∷ xs))
 sum-of-sizes x xs l h =
     ap sumOf (sym (numbers-of-sizes (x ∷ xs) h .0)) ∙ sum-of-whole (number x) (map number xs) (whole-sum-le (x ∷ xs) l h)
 
--- that number itself: nothing was rounded away
+-- one size at least, and 256 at most: the f32 sum is exactly the whole-number sum
 pub sum-of-sizes-exact : (x : Float) (xs : List Float) → length (x ∷ xs) ≤ 256 → All WholeSize (x ∷ xs) → HasValue (sumOf (x ∷ xs)) false (wholeSum (x ∷ xs)) 1
 unfolding ofInt
 sum-of-sizes-exact x xs l h =
     subst (λ (z : Float). HasValue z false (wholeSum (x ∷ xs)) 1) (sym (sum-of-sizes x xs l h)) (round-whole binary32 false (wholeSum (x ∷ xs)) (whole-sum-le (x ∷ xs) l h))
-
--- from +0.0 on, the same of every list, the empty one included
-pub sum-from-zero : (xs : List Float) → length xs ≤ 256 → All WholeSize xs → sumFrom (whole 0) xs ≡ whole (wholeSum xs)
-sum-from-zero xs l h =
-    ap (sumFrom (whole 0)) (sym (numbers-of-sizes xs h .0)) ∙ sum-from-whole 0 (map number xs) (rw zero-add (whole-sum-le xs l h)) ∙ ap whole (zero-add (wholeSum xs))

@@ -1,4 +1,5 @@
--- Whole sizes: the f32 values that are a whole number of at most 65,535, and the whole-number sum of a list of them. Assumes nothing.
+-- Whole sizes: the f32 values that are a whole number of at most 65,535, and the whole-number sum of a list of them. That a whole size has exactly its
+-- number as value is proved (`size-exact` in proofs/Whole.antt). Assumes nothing.
 use mathlib.Core.List.{List, map}
 use Prim.Native.Nat.{ℕ}
 use lib.IntN.{pos}

@@ -2,20 +2,22 @@
 use mathlib.Core.Path.{_≡_}
 use mathlib.Core.Bool.{Bool, true}
 use mathlib.Core.List.{List}
-use lib.Dec.{T}
 use lib.ListN.{length, getD}
-use lib.Ieee.{Float, nan, binary32, fits}
+use lib.Ieee.{Float, nan}
 use Rattle.laws.specs.Lists.{All}
+use Rattle.float_laws.specs.Numbers.{IsF32}
 use Rattle.domain.specs.declared.kind.Kind.{Kind}
 use Rattle.domain.specs.declared.kind.Kind.the-variants.{Size, Limit, Factor, Proportion}
 use Rattle.domain.specs.Domain.{inDomain}
+use Rattle.float_track.specs.declared.space.AvailableSpace.{AvailableSpace}
+use Rattle.float_track.specs.declared.space.AvailableSpace.the-variants.{Definite, MinContent, MaxContent}
 use Rattle.float_track.specs.declared.space.OptionalSize.{OptionalSize}
 use Rattle.float_track.specs.declared.space.OptionalSize.the-variants.{Given, Absent}
 use Rattle.distribution.specs.Distribution.{OneLength}
 
 -- x is an f32 in the domain of its kind
 abbrev pub IsOf : Kind → Float → Type 0
-IsOf kind x = T (fits binary32 x) × (inDomain kind x ≡ true)
+IsOf kind x = IsF32 x × (inDomain kind x ≡ true)
 
 -- the numbers of a track's row
 pub record TrackInputs (row : List Float) : Type 0 where
@@ -25,10 +27,15 @@ pub record TrackInputs (row : List Float) : Type 0 where
   pub limit-planned : IsOf Size (getD row 3 nan)
   pub incurred : IsOf Size (getD row 4 nan)
 
--- nothing is asked of an absent size
+-- nothing is asked of an absent size, or of a space that is not definite
 abbrev pub SizeInput : OptionalSize → Type 0
 SizeInput (Given size) = IsOf Size size
 SizeInput Absent = Unit {0}
+
+abbrev pub SpaceInput : AvailableSpace → Type 0
+SpaceInput (Definite space) = IsOf Size space
+SpaceInput MinContent = Unit {0}
+SpaceInput MaxContent = Unit {0}
 
 pub record FrInputs (rows : List (List Float)) (fs : List Bool) (xs : List Float) (space : Float) : Type 0 where
   pub flexible : length fs ≡ length rows
@@ -55,3 +62,9 @@ pub record MaximiseInputs (rows : List (List Float)) (limits : List Float) : Typ
   pub limits-length : length limits ≡ length rows
   pub tracks : All TrackInputs rows
   pub fit-content : All (IsOf Limit) limits
+
+pub record StretchInputs (rows : List (List Float)) (autos : List Bool) (minimum : OptionalSize) (space : AvailableSpace) : Type 0 where
+  pub autos-length : length autos ≡ length rows
+  pub tracks : All TrackInputs rows
+  pub minimum-size : SizeInput minimum
+  pub stretched-to : SpaceInput space

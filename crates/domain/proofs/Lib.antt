@@ -2,5 +2,7 @@
 
 -- a float that passes a comparison
 pub mod NoNan
+-- floats that are f32
+pub mod F32
 -- numbers looked through in order, findings, and lengths
 pub mod Outside

@@ -1,6 +1,6 @@
 -- The numbers of a call looked through in order, what a finding says, and what lengths that fit say. Assumes nothing.
-use mathlib.Core.Path.{_≡_, refl, sym, ap, _∙_}
-use mathlib.Core.Bool.{Bool, true, false, cond, _&&_}
+use mathlib.Core.Path.{_≡_, refl, sym, ap, _∙_, subst}
+use mathlib.Core.Bool.{Bool, true, false, cond, _&&_, true≢false}
 use mathlib.Core.List.{List, [], _∷_, _++_}
 use Prim.Native.Nat.{ℕ, suc, _+_, _*_, _≤_, _<_}
 use native.Mathlib.Omega.{arith}
@@ -8,6 +8,7 @@ use lib.Dec.{eqb}
 use lib.Ieee.{Float, nan}
 use lib.ListN.{length, getD, drop, length-map, drop-of-length-le}
 use borrow.Author.Tests.{leb-true, eqb-true}
+use Rattle.laws.specs.Lists.{All}
 use Rattle.laws.specs.Walk.{next}
 use Rattle.domain.specs.declared.kind.Kind.{Kind}
 use Rattle.domain.specs.declared.refusal.Refusal.{Refusal}
@@ -31,6 +32,17 @@ first-of-found (Found r) g e = refl
 pub first-of-not-found : (f : Fault) (g : Finding) → isFound f ≡ false → first (findingOf f) g ≡ g
 first-of-not-found Fine g e = refl
 first-of-not-found (Found r) g e = cc
+
+pub refused-not-fine : (n place : ℕ) → refused n place ≡ fine → ⊥
+refused-not-fine n place e = subst isRefused e tt
+  where
+    isRefused : Finding → Type 0
+    isRefused fine = ⊥
+    isRefused (refused a b) = Unit {0}
+
+pub found-not-fine : (f : Fault) → isFound f ≡ true → findingOf f ≡ fine → ⊥
+found-not-fine Fine e h = true≢false (sym e)
+found-not-fine (Found r) e h = refused-not-fine (numberOf r) (placeOf r) h
 
 -- ---- faults of one finding are the same: from its number and place, a refusal can be made again
 
@@ -94,6 +106,19 @@ module _ (k : ℕ) {all : List Number} (front rest : List Number) (parted : all 
 pub outside-end : (k : ℕ) {all : List Number} {whole : Finding} → outsideFrom k all ≡ whole → all ≡ [] → fine ≡ whole
 unfolding outsideFrom
 outside-end k walk none = rw none at walk
+
+-- numbers of which none is outside
+abbrev pub IsAccepted : Number → Type 0
+IsAccepted n = accepted n ≡ true
+
+pub accepted-of-fine : (k : ℕ) (ns : List Number) → outsideFrom k ns ≡ fine → All IsAccepted ns
+unfolding outsideFrom All
+accepted-of-fine k [] h = tt
+accepted-of-fine k (n ∷ ns) h = let both = passed (accepted n) (outsideFrom (suc k) ns) h in (both .0, accepted-of-fine (suc k) ns (both .1))
+  where
+    passed : (b : Bool) (rest : Finding) → cond b rest (refused 13 k) ≡ fine → (b ≡ true) × (rest ≡ fine)
+    passed true rest e = (refl, e)
+    passed false rest e = absurd (refused-not-fine 13 k e)
 
 pub length-numbers-of : (kind : Kind) (xs : List Float) → length (numbersOf kind xs) ≡ length xs
 length-numbers-of kind xs = length-map xs (given kind)

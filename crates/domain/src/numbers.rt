@@ -5,7 +5,9 @@ use crate::refusal::Refusal;
 ghost use mathlib.Core.Path.{_≡_};
 ghost use mathlib.Core.List.{[], _∷_};
 ghost use Prim.Native.Nat.{_<_, _^_};
-ghost use Rattle.domain.specs.Domain.{given, outsideFrom, numbersOf, trackNumbers, tracksNumbers};
+ghost use Rattle.laws.specs.Lists.{All};
+ghost use Rattle.float_laws.specs.Numbers.{IsF32};
+ghost use Rattle.domain.specs.Domain.{given, outsideFrom, numbersOf, trackNumbers, tracksNumbers, fine};
 ghost use Rattle.domain.specs.Answer.{findingOf};
 
 // One float.
@@ -34,10 +36,11 @@ pub fn slice_fault(from: usize, kind: Kind, xs: &[f32]) -> Fault
     Fault::Fine
 }
 
-// A track record's five numbers, as listed.
+// A track record's five numbers, as listed. A row by value is known to hold f32 numbers, which of a lent row nothing else tells.
 pub fn track_fault(from: usize, row: [f32; 5]) -> Fault
     requires { ⌜ from < 2 ^ 63 ⌝ }
     ensures { λ r. ⌜ findingOf r ≡ outsideFrom from (trackNumbers row) ⌝ }
+    ensures { λ r. ⌜ All IsF32 row ⌝ }
 {
     let incurred = number_fault(from + 4, Kind::Size, row[4]);
     let limit_planned = number_fault(from + 3, Kind::Size, row[3]).first(incurred);
@@ -50,6 +53,7 @@ pub fn track_fault(from: usize, row: [f32; 5]) -> Fault
 pub fn tracks_fault(from: usize, tracks: &[[f32; 5]]) -> Fault
     requires { ⌜ from < 2 ^ 62 ⌝ }
     ensures { λ r. ⌜ findingOf r ≡ outsideFrom from (tracksNumbers (now (tracks .entry))) ⌝ }
+    ensures { λ r. ⌜ (findingOf r ≡ fine → All (All IsF32) (now (tracks .entry))) ⌝ }
 {
     let mut i = 0;
     while i < tracks.len() {

@@ -1,9 +1,14 @@
--- The f32 numbers that the routines name, each by its bit pattern, and beside it the number it stands for: a decimal is
+-- Which floats are f32, and the numbers that the routines name, each by its bit pattern, and beside it the number it stands for: a decimal is
 -- the nearest f32. Assumes nothing.
 use mathlib.Core.Path.{_≡_, refl}
 use mathlib.Core.Bool.{true, false}
 use lib.IntN.{pos}
-use lib.Ieee.{Float, fin, inf, neg, ofBits, ofInt, round, binary32}
+use lib.Dec.{T}
+use lib.Ieee.{Float, fin, inf, neg, ofBits, ofInt, round, binary32, fits}
+
+-- x is an f32, as every float that a program holds as one is
+abbrev pub IsF32 : Float → Type 0
+IsF32 x = T (fits binary32 x)
 
 abbrev pub zero32 : Float
 zero32 = ofBits binary32 0

@@ -4,9 +4,10 @@ use mathlib.Core.Logic.{_⊎_}
 use mathlib.Core.Bool.{Bool, true, false, not, cond}
 use mathlib.Core.List.{List, foldl}
 use Prim.Native.Nat.{ℕ, _+_, _-_, _^_}
-use lib.Dec.{T, ltb, leb}
+use lib.Dec.{ltb, leb}
 use lib.Ieee as Ieee
-use lib.Ieee.{Float, nan, inf, fin, binary32, toBits, fits, isNan}
+use lib.Ieee.{Float, nan, inf, fin, binary32, toBits, isNan}
+use Rattle.float_laws.specs.Numbers.{IsF32}
 
 -- no NaN, and the sign bit is clear
 abbrev pub clear : Float → Bool
@@ -16,7 +17,7 @@ clear (fin s m e) = not s
 
 -- x is an f32, no NaN, and its sign bit is clear
 abbrev pub IsClear : Float → Type 0
-IsClear x = T (fits binary32 x) × (clear x ≡ true)
+IsClear x = IsF32 x × (clear x ≡ true)
 
 -- ---- what the routines write
 

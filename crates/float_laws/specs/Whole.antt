@@ -5,8 +5,9 @@ use Prim.Native.Nat.{ℕ}
 use lib.IntN.{pos}
 use lib.Dec.{T}
 use lib.Ieee as Ieee
-use lib.Ieee.{Float, ofInt, ofBits, binary32, fits, toUnsigned}
+use lib.Ieee.{Float, ofInt, ofBits, binary32, toUnsigned}
 use Rattle.laws.specs.Sums.{sum}
+use Rattle.float_laws.specs.Numbers.{IsF32}
 
 -- the f32 of a whole number
 abbrev pub whole : ℕ → Float
@@ -14,7 +15,7 @@ whole n = ofInt binary32 (pos n)
 
 -- x is an f32, it is a whole number (which -0.0 is not), and it is from 0 to 65,535
 abbrev pub WholeSize : Float → Type 0
-WholeSize x = T (fits binary32 x) × T (Ieee.whole binary32 x) × T (Ieee.le (ofBits binary32 0) x) × T (Ieee.le x (whole 65535))
+WholeSize x = IsF32 x × T (Ieee.whole binary32 x) × T (Ieee.le (ofBits binary32 0) x) × T (Ieee.le x (whole 65535))
 
 -- the whole number that x is, as Rust's `x as u32` has it
 abbrev pub number : Float → ℕ

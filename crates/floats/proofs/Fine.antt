@@ -1,11 +1,13 @@
 -- The tests of a call one after another: what is refused first, and what a call that is not refused is known by. Assumes
 -- nothing.
-use mathlib.Core.Path.{_≡_, refl, sym, _∙_, subst}
+use mathlib.Core.Path.{_≡_, refl, sym, _∙_}
 use mathlib.Core.Bool.{Bool, true, false}
 use mathlib.Core.List.{List}
 use Prim.Native.Nat.{ℕ}
 use Rattle.domain.specs.Domain.{Finding, fine, refused, first, unless, lengthsFit, lengthsFinding}
-use Rattle.domain.proofs.Outside.{first-fine}
+use Rattle.domain.specs.declared.refusal.Fault.{Fault}
+use Rattle.domain.specs.Answer.{findingOf}
+use Rattle.domain.proofs.Outside.{first-fine, refused-not-fine}
 
 -- a test that passes, and one that does not
 module _ (test : Bool) (n place : ℕ) (rest : Finding) where
@@ -15,12 +17,13 @@ module _ (test : Bool) (n place : ℕ) (rest : Finding) where
   pub first-of-failed : test ≡ false → refused n place ≡ first (unless test (refused n place)) rest
   first-of-failed e = rw e refl
 
-refused-not-fine : (n place : ℕ) → refused n place ≡ fine → ⊥
-refused-not-fine n place e = subst isRefused e tt
-  where
-    isRefused : Finding → Type 0
-    isRefused fine = ⊥
-    isRefused (refused a b) = Unit {0}
+-- what a refusal is told by is not fine, so anything may be asked of it
+pub of-refused : {X : Type 0} (n place : ℕ) {finding : Finding} → refused n place ≡ finding → finding ≡ fine → X
+of-refused n place is none = absurd (refused-not-fine n place (is ∙ none))
+
+-- the first of two that finds nothing: neither does
+pub both-fine : (f g : Fault) {r : Finding} → r ≡ first (findingOf f) (findingOf g) → r ≡ fine → (findingOf f ≡ fine) × (findingOf g ≡ fine)
+both-fine f g is none = first-fine (findingOf f) (findingOf g) (sym is ∙ none)
 
 pub passed-of-fine : (test : Bool) (n place : ℕ) → unless test (refused n place) ≡ fine → test ≡ true
 passed-of-fine true n place h = refl

@@ -1,4 +1,5 @@
 pub mod Calls
 pub mod Fine
 pub mod Lengths
+pub mod Rust
 pub mod Unique

@@ -10,9 +10,13 @@ use float_track::OptionalSize;
 use gutters::AlignContent;
 ghost use mathlib.Core.Path.{_≡_};
 ghost use mathlib.Core.List.{[], _∷_};
-ghost use Rattle.domain.specs.Domain.{outsideFrom};
+ghost use lib.Ieee.{Float};
+ghost use Rattle.domain.specs.Domain.{outsideFrom, fine};
 ghost use Rattle.domain.specs.Answer.{findingOf};
+ghost use Rattle.agreement.specs.Rust.{IsRustMax};
+ghost use Rattle.agreement.specs.Inputs.{GutterInputs};
 ghost use Rattle.floats.specs.Rule.{sizeNumber, isGutterCount, gutterFinding, gutterCall};
+ghost use Rattle.floats.specs.Rust.{rustGutterCall};
 ghost use Rattle.floats.specs.Answer.{numberTold};
 
 // A size that may be absent; where it is, there is no float to test.
@@ -40,6 +44,7 @@ fn is_gutter_count(count: usize) -> bool
 
 fn gutter_fault(inner: OptionalSize, known: &[bool], estimates: &[f32]) -> Fault
     ensures { λ r. ⌜ findingOf r ≡ gutterFinding inner (now (known .entry)) (now (estimates .entry)) ⌝ }
+    ensures { λ r. ⌜ (gutterFinding inner (now (known .entry)) (now (estimates .entry)) ≡ fine → GutterInputs inner (now (known .entry)) (now (estimates .entry))) ⌝ }
 {
     if !two_fit(known.len(), estimates.len()) {
         return Fault::Found(Refusal::Lengths);
@@ -58,6 +63,7 @@ pub fn compute_alignment_gutter_adjustment(
     estimates: &[f32],
 ) -> NumberAnswer
     ensures { λ r. ⌜ numberTold r ≡ gutterCall alignment inner (now (known .entry)) (now (estimates .entry)) ⌝ }
+    ensures { λ r. ⌜ ((rustMax : Float → Float → Float) → IsRustMax rustMax → numberTold r ≡ rustGutterCall rustMax alignment inner (now (known .entry)) (now (estimates .entry))) ⌝ }
 {
     let fault = gutter_fault(inner, known, estimates);
     match fault {

@@ -8,8 +8,13 @@ use domain::number_fault;
 use domain::slice_fault;
 use domain::tracks_fault;
 ghost use mathlib.Core.Path.{_≡_};
+ghost use lib.Ieee.{Float};
+ghost use Rattle.domain.specs.Domain.{fine};
 ghost use Rattle.domain.specs.Answer.{findingOf};
+ghost use Rattle.agreement.specs.Rust.{IsRustMin};
+ghost use Rattle.agreement.specs.Inputs.{DistributionInputs};
 ghost use Rattle.floats.specs.Rule.{outcome, distributionFinding, distributionCall};
+ghost use Rattle.floats.specs.Rust.{rustDistributionCall};
 ghost use Rattle.floats.specs.Answer.{numberTold};
 
 fn distribution_fault(
@@ -21,6 +26,7 @@ fn distribution_fault(
     limits: &[f32],
 ) -> Fault
     ensures { λ r. ⌜ findingOf r ≡ distributionFinding space (now (tracks .entry)) (now (affected .entry)) (now (proportions .entry)) (now (sizes .entry)) (now (limits .entry)) ⌝ }
+    ensures { λ r. ⌜ (distributionFinding space (now (tracks .entry)) (now (affected .entry)) (now (proportions .entry)) (now (sizes .entry)) (now (limits .entry)) ≡ fine → DistributionInputs space (now (tracks .entry)) (now (affected .entry)) (now (proportions .entry)) (now (sizes .entry)) (now (limits .entry))) ⌝ }
 {
     let n = tracks.len();
     if !five_fit(
@@ -49,6 +55,7 @@ pub fn distribute_space_up_to_limits(
     limits: &[f32],
 ) -> NumberAnswer
     ensures { λ r. ⌜ outcome (numberTold r) (now (tracks .exit)) ≡ distributionCall space (now (tracks .entry)) (now (affected .entry)) (now (proportions .entry)) (now (sizes .entry)) (now (limits .entry)) ⌝ }
+    ensures { λ r. ⌜ ((rustMin : Float → Float → Float) → IsRustMin rustMin → outcome (numberTold r) (now (tracks .exit)) ≡ rustDistributionCall rustMin space (now (tracks .entry)) (now (affected .entry)) (now (proportions .entry)) (now (sizes .entry)) (now (limits .entry))) ⌝ }
 {
     let fault = distribution_fault(space, tracks, affected, proportions, sizes, limits);
     match fault {

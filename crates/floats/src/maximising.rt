@@ -10,9 +10,13 @@ use domain::two_fit;
 use float_track::AvailableSpace;
 ghost use mathlib.Core.Path.{_≡_};
 ghost use mathlib.Core.List.{[], _∷_};
-ghost use Rattle.domain.specs.Domain.{outsideFrom};
+ghost use lib.Ieee.{Float};
+ghost use Rattle.domain.specs.Domain.{outsideFrom, fine};
 ghost use Rattle.domain.specs.Answer.{findingOf};
+ghost use Rattle.agreement.specs.Rust.{IsRustMin};
+ghost use Rattle.agreement.specs.Inputs.{MaximiseInputs};
 ghost use Rattle.floats.specs.Rule.{outcome, spaceNumber, maximiseFinding, maximiseCall};
+ghost use Rattle.floats.specs.Rust.{rustMaximiseCall};
 ghost use Rattle.floats.specs.Answer.{tracksTold};
 
 // A space that is not definite has no float to test.
@@ -28,6 +32,7 @@ pub(crate) fn space_fault(index: usize, space: AvailableSpace) -> Fault
 
 fn maximise_fault(tracks: &[[f32; 5]], fits: &[f32], space: AvailableSpace) -> Fault
     ensures { λ r. ⌜ findingOf r ≡ maximiseFinding (now (tracks .entry)) (now (fits .entry)) space ⌝ }
+    ensures { λ r. ⌜ (maximiseFinding (now (tracks .entry)) (now (fits .entry)) space ≡ fine → MaximiseInputs (now (tracks .entry)) (now (fits .entry))) ⌝ }
 {
     let n = tracks.len();
     if !two_fit(n, fits.len()) {
@@ -41,6 +46,7 @@ fn maximise_fault(tracks: &[[f32; 5]], fits: &[f32], space: AvailableSpace) -> F
 // The base sizes grow. A track without a fit-content limit has +infinity for it.
 pub fn maximise_tracks(tracks: &mut [[f32; 5]], fits: &[f32], space: AvailableSpace) -> TracksAnswer
     ensures { λ r. ⌜ outcome (tracksTold r) (now (tracks .exit)) ≡ maximiseCall (now (tracks .entry)) (now (fits .entry)) space ⌝ }
+    ensures { λ r. ⌜ ((rustMin : Float → Float → Float) → IsRustMin rustMin → outcome (tracksTold r) (now (tracks .exit)) ≡ rustMaximiseCall rustMin (now (tracks .entry)) (now (fits .entry)) space) ⌝ }
 {
     let fault = maximise_fault(tracks, fits, space);
     match fault {

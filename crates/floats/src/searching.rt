@@ -8,12 +8,18 @@ use domain::slice_fault;
 use domain::three_fit;
 use domain::tracks_fault;
 ghost use mathlib.Core.Path.{_≡_};
+ghost use lib.Ieee.{Float};
+ghost use Rattle.domain.specs.Domain.{fine};
 ghost use Rattle.domain.specs.Answer.{findingOf};
+ghost use Rattle.agreement.specs.Rust.{IsRustMax};
+ghost use Rattle.agreement.specs.Inputs.{FrInputs};
 ghost use Rattle.floats.specs.Rule.{frFinding, frCall};
+ghost use Rattle.floats.specs.Rust.{rustFrCall};
 ghost use Rattle.floats.specs.Answer.{numberTold};
 
 fn fr_fault(tracks: &[[f32; 5]], flexible: &[bool], factors: &[f32], space: f32) -> Fault
     ensures { λ r. ⌜ findingOf r ≡ frFinding (now (tracks .entry)) (now (flexible .entry)) (now (factors .entry)) space ⌝ }
+    ensures { λ r. ⌜ (frFinding (now (tracks .entry)) (now (flexible .entry)) (now (factors .entry)) space ≡ fine → FrInputs (now (tracks .entry)) (now (flexible .entry)) (now (factors .entry)) space) ⌝ }
 {
     let n = tracks.len();
     if !three_fit(n, flexible.len(), factors.len()) {
@@ -31,6 +37,7 @@ pub fn find_size_of_fr(
     space: f32,
 ) -> NumberAnswer
     ensures { λ r. ⌜ numberTold r ≡ frCall (now (tracks .entry)) (now (flexible .entry)) (now (factors .entry)) space ⌝ }
+    ensures { λ r. ⌜ ((rustMax : Float → Float → Float) → IsRustMax rustMax → numberTold r ≡ rustFrCall rustMax (now (tracks .entry)) (now (flexible .entry)) (now (factors .entry)) space) ⌝ }
 {
     let fault = fr_fault(tracks, flexible, factors, space);
     match fault {

@@ -9,7 +9,9 @@ use domain::two_fit;
 use float_track::AvailableSpace;
 use float_track::OptionalSize;
 ghost use mathlib.Core.Path.{_≡_};
+ghost use Rattle.domain.specs.Domain.{fine};
 ghost use Rattle.domain.specs.Answer.{findingOf};
+ghost use Rattle.agreement.specs.Inputs.{StretchInputs};
 ghost use Rattle.floats.specs.Rule.{outcome, stretchFinding, stretchCall};
 ghost use Rattle.floats.specs.Answer.{tracksTold};
 
@@ -20,6 +22,7 @@ fn stretch_fault(
     space: AvailableSpace,
 ) -> Fault
     ensures { λ r. ⌜ findingOf r ≡ stretchFinding (now (tracks .entry)) (now (autos .entry)) minimum space ⌝ }
+    ensures { λ r. ⌜ (stretchFinding (now (tracks .entry)) (now (autos .entry)) minimum space ≡ fine → StretchInputs (now (tracks .entry)) (now (autos .entry)) minimum space) ⌝ }
 {
     if !two_fit(tracks.len(), autos.len()) {
         return Fault::Found(Refusal::Lengths);
@@ -37,6 +40,7 @@ pub fn stretch_auto_tracks(
     space: AvailableSpace,
 ) -> TracksAnswer
     ensures { λ r. ⌜ outcome (tracksTold r) (now (tracks .exit)) ≡ stretchCall (now (tracks .entry)) (now (autos .entry)) minimum space ⌝ }
+    ensures { λ r. ⌜ (stretchFinding (now (tracks .entry)) (now (autos .entry)) minimum space ≡ fine → StretchInputs (now (tracks .entry)) (now (autos .entry)) minimum space) ⌝ }
 {
     let fault = stretch_fault(tracks, autos, minimum, space);
     match fault {

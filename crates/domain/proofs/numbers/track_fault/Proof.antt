@@ -1,6 +1,8 @@
--- `track_fault` is the first of what it finds in each number, taken from the last one back. Assumes nothing.
+-- `track_fault` is the first of what it finds in each number, taken from the last one back; that they are f32 is what its row's type says.
+-- Assumes nothing.
 use native.Mathlib.Omega.{arith}
 use borrow.Author.Needs.{needs}
+use Rattle.domain.proofs.F32.{f32-of-elements}
 use Rattle.domain.proofs.Outside.{outside-then}
 use Rattle.domain.proofs.numbers.track_fault.Statement.{statement}
 use Rattle.domain.proofs.numbers.track_fault.Tie as tie
@@ -65,7 +67,10 @@ returns c =
     let limit-planned = outside-then _ _ _ _ (c .before .before .before .before .before .before .first .ensures) (c .before .before .before .before .before .before .before .number-fault2 .ensures) incurred (omega arith) in
     let base-planned = outside-then _ _ _ _ (c .before .before .before .before .first2 .ensures) (c .before .before .before .before .before .number-fault3 .ensures) limit-planned (omega arith) in
     let limit = outside-then _ _ _ _ (c .before .before .first3 .ensures) (c .before .before .before .number-fault4 .ensures) base-planned (omega arith) in
-    outside-then _ _ _ _ (c .first4 .ensures) (c .before .number-fault5 .ensures) limit (omega arith)
+    let start = c .before .before .before .before .before .before .before .before .before in (
+      outside-then _ _ _ _ (c .first4 .ensures) (c .before .number-fault5 .ensures) limit (omega arith),
+      f32-of-elements (start .args .t2) _ (start .good .1 .0 .1 .1),
+    )
 
 pub track-fault-spec : {M : Type 1} → statement M
 track-fault-spec =

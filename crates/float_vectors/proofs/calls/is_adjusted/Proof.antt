@@ -12,7 +12,7 @@ is-number-requires : tie.Need-is-number-requires
 is-number-requires c κs = search needs
 
 returns : tie.Need-returns
-returns c = λ p. sym (c .is-number .ensures p) ∙ ap toldBits (c .before .compute-alignment-gutter-adjustment .ensures)
+returns c = λ p. sym (c .is-number .ensures p) ∙ ap toldBits (c .before .compute-alignment-gutter-adjustment .ensures .0)
 
 pub is-adjusted-spec : {M : Type 1} → statement M
 is-adjusted-spec = tie.close (tie.spec compute-alignment-gutter-adjustment-requires is-number-requires returns)

@@ -12,7 +12,7 @@ is-flushed-requires : tie.Need-is-flushed-requires
 is-flushed-requires c κs = search needs
 
 returns : tie.Need-returns
-returns c = λ p. sym (c .is-flushed .ensures p) ∙ ap toldBits (c .before .flush-planned-base-size-increases .ensures)
+returns c = λ p. sym (c .is-flushed .ensures p) ∙ ap toldBits (c .before .flush-planned-base-size-increases .ensures .0)
 
 pub is-base-flushed-spec : {M : Type 1} → statement M
 is-base-flushed-spec = tie.close (tie.spec flush-planned-base-size-increases-requires is-flushed-requires returns)

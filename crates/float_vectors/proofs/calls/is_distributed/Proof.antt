@@ -30,7 +30,7 @@ returns-2 : tie.Need-returns-2
 returns-2 c =
     let at-if1 = c .before .before in
     let at-call = at-if1 .before .before .before in
-    λ p. left-as _ _ _ _ (at-if1 .before .is-number .ensures (not-false _ (at-if1 .if1 .left))) (c .same-rows .ensures p) ∙ ap outcomeBits (at-call .distribute-space-up-to-limits .ensures)
+    λ p. left-as _ _ _ _ (at-if1 .before .is-number .ensures (not-false _ (at-if1 .if1 .left))) (c .same-rows .ensures p) ∙ ap outcomeBits (at-call .distribute-space-up-to-limits .ensures .0)
 
 pub is-distributed-spec : {M : Type 1} → statement M
 is-distributed-spec =

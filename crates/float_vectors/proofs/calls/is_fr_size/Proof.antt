@@ -12,7 +12,7 @@ is-number-requires : tie.Need-is-number-requires
 is-number-requires c κs = search needs
 
 returns : tie.Need-returns
-returns c = λ p. sym (c .is-number .ensures p) ∙ ap toldBits (c .before .find-size-of-fr .ensures)
+returns c = λ p. sym (c .is-number .ensures p) ∙ ap toldBits (c .before .find-size-of-fr .ensures .0)
 
 pub is-fr-size-spec : {M : Type 1} → statement M
 is-fr-size-spec = tie.close (tie.spec find-size-of-fr-requires is-number-requires returns)

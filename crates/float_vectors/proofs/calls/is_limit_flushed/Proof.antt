@@ -12,7 +12,7 @@ is-flushed-requires : tie.Need-is-flushed-requires
 is-flushed-requires c κs = search needs
 
 returns : tie.Need-returns
-returns c = λ p. sym (c .is-flushed .ensures p) ∙ ap toldBits (c .before .flush-planned-growth-limit-increases .ensures)
+returns c = λ p. sym (c .is-flushed .ensures p) ∙ ap toldBits (c .before .flush-planned-growth-limit-increases .ensures .0)
 
 pub is-limit-flushed-spec : {M : Type 1} → statement M
 is-limit-flushed-spec = tie.close (tie.spec flush-planned-growth-limit-increases-requires is-flushed-requires returns)

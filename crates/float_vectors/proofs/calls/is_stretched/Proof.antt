@@ -30,7 +30,7 @@ returns-2 : tie.Need-returns-2
 returns-2 c =
     let at-if1 = c .before .before in
     let at-call = at-if1 .before .before .before in
-    λ p. left-as _ _ _ _ (at-if1 .before .is-sized .ensures (not-false _ (at-if1 .if1 .left))) (c .same-rows .ensures p) ∙ ap outcomeBits (at-call .stretch-auto-tracks .ensures)
+    λ p. left-as _ _ _ _ (at-if1 .before .is-sized .ensures (not-false _ (at-if1 .if1 .left))) (c .same-rows .ensures p) ∙ ap outcomeBits (at-call .stretch-auto-tracks .ensures .0)
 
 pub is-stretched-spec : {M : Type 1} → statement M
 is-stretched-spec =

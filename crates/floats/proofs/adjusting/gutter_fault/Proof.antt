@@ -8,8 +8,9 @@ use lib.ListN.{length}
 use Rattle.domain.specs.declared.kind.Kind.the-variants.{Size, Limit, Factor, Proportion}
 use Rattle.domain.specs.Domain.{given, numbersOf, tracksNumbers, lengthsFit}
 use Rattle.domain.proofs.Outside.{outside-then, outside-both, length-numbers-of, length-tracks-numbers, lengths-fit-head}
-use Rattle.floats.proofs.Fine.{first-of-passed, first-of-failed}
-use Rattle.floats.proofs.Lengths.{one-length}
+use Rattle.domain.proofs.F32.{f32-of-size, f32-of-slice}
+use Rattle.floats.proofs.Fine.{first-of-passed, first-of-failed, of-refused}
+use Rattle.floats.proofs.Rust.{gutter-inputs}
 use Rattle.floats.specs.Rule.{sizeNumber}
 use borrow.Author.Needs.{needs}
 use Rattle.floats.proofs.adjusting.gutter_fault.Statement.{statement}
@@ -19,15 +20,19 @@ two-fit-requires : tie.Need-two-fit-requires
 two-fit-requires c κs = search needs
 
 returns : tie.Need-returns
-returns c = first-of-failed _ 12 0 _ (sym (c .before .two-fit .ensures) ∙ not-true _ (c .if1 .taken))
+returns c =
+    let is = first-of-failed _ 12 0 _ (sym (c .before .two-fit .ensures) ∙ not-true _ (c .if1 .taken)) in
+    (is, of-refused 12 0 is)
 
 is-gutter-count-requires : tie.Need-is-gutter-count-requires
 is-gutter-count-requires c κs = search needs
 
 returns-2 : tie.Need-returns-2
 returns-2 c =
+    let is =
     first-of-failed _ 14 0 _ (sym (c .before .is-gutter-count .ensures) ∙ not-true _ (c .if2 .taken))
-    ∙ first-of-passed _ 12 0 _ (sym (c .before .before .before .two-fit .ensures) ∙ not-false _ (c .before .before .if1 .left))
+    ∙ first-of-passed _ 12 0 _ (sym (c .before .before .before .two-fit .ensures) ∙ not-false _ (c .before .before .if1 .left)) in
+    (is, of-refused 14 0 is)
 
 slice-fault-requires : tie.Need-slice-fault-requires
 slice-fault-requires c κs = search needs
@@ -40,10 +45,13 @@ first-requires c κs = search needs
 
 returns-3 : tie.Need-returns-3
 returns-3 c =
-    let a = c .before .before .before .before .before .before .before .before .before .args in
-    outside-then 0 1 (sizeNumber (a .inner)) (numbersOf Size (a .estimates .now)) (c .first .ensures) (c .before .size-fault .ensures) (c .before .before .slice-fault .ensures) (omega arith)
-    ∙ first-of-passed _ 14 0 _ (sym (c .before .before .before .before .is-gutter-count .ensures) ∙ not-false _ (c .before .before .before .if2 .left))
-    ∙ first-of-passed _ 12 0 _ (sym (c .before .before .before .before .before .before .two-fit .ensures) ∙ not-false _ (c .before .before .before .before .before .if1 .left))
+    let entry = c .before .before .before .before .before .before .before .before .before in
+    let a = entry .args in (
+      outside-then 0 1 (sizeNumber (a .inner)) (numbersOf Size (a .estimates .now)) (c .first .ensures) (c .before .size-fault .ensures) (c .before .before .slice-fault .ensures) (omega arith)
+          ∙ first-of-passed _ 14 0 _ (sym (c .before .before .before .before .is-gutter-count .ensures) ∙ not-false _ (c .before .before .before .if2 .left))
+          ∙ first-of-passed _ 12 0 _ (sym (c .before .before .before .before .before .before .two-fit .ensures) ∙ not-false _ (c .before .before .before .before .before .if1 .left)),
+      gutter-inputs (a .inner) (a .known .now) (a .estimates .now) (f32-of-size (a .inner) _ (entry .good .0)) (f32-of-slice (a .estimates .now) (c .before .before .before .before .before .before .before .shared-slice-known2 .given)),
+    )
 
 pub gutter-fault-spec : {M : Type 1} → statement M
 gutter-fault-spec =

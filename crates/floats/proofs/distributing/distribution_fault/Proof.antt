@@ -8,8 +8,10 @@ use lib.ListN.{length}
 use Rattle.domain.specs.declared.kind.Kind.the-variants.{Size, Limit, Factor, Proportion}
 use Rattle.domain.specs.Domain.{given, numbersOf, tracksNumbers, lengthsFit}
 use Rattle.domain.proofs.Outside.{outside-then, outside-both, length-numbers-of, length-tracks-numbers, lengths-fit-head}
-use Rattle.floats.proofs.Fine.{first-of-passed, first-of-failed}
+use Rattle.domain.proofs.F32.{f32-of-fits, f32-of-slice}
+use Rattle.floats.proofs.Fine.{first-of-passed, first-of-failed, of-refused, both-fine}
 use Rattle.floats.proofs.Lengths.{one-length}
+use Rattle.floats.proofs.Rust.{distribution-inputs}
 use borrow.Author.Needs.{needs}
 use Rattle.floats.proofs.distributing.distribution_fault.Statement.{statement}
 use Rattle.floats.proofs.distributing.distribution_fault.Tie as tie
@@ -18,7 +20,9 @@ five-fit-requires : tie.Need-five-fit-requires
 five-fit-requires c κs = search needs
 
 returns : tie.Need-returns
-returns c = first-of-failed _ 12 0 _ (sym (c .before .five-fit .ensures) ∙ not-true _ (c .if1 .taken))
+returns c =
+    let is = first-of-failed _ 12 0 _ (sym (c .before .five-fit .ensures) ∙ not-true _ (c .if1 .taken)) in
+    (is, of-refused 12 0 is)
 
 mul-slice-fault : tie.Need-mul-slice-fault
 mul-slice-fault c = search needs
@@ -67,8 +71,11 @@ first-requires-4 c κs = search needs
 
 returns-2 : tie.Need-returns-2
 returns-2 c =
-    let a = c .before .before .before .before .before .before .before .before .before .before .before .before .before .before .before .args in
+    let entry = c .before .before .before .before .before .before .before .before .before .before .before .before .before .before .before in
+    let a = entry .args in
     let n = length (a .tracks .now) in
+    let rows = c .before .before .before .tracks-fault in
+    let behind = c .before .before .first3 in
     let fit = sym (c .before .before .before .before .before .before .before .before .before .before .five-fit .ensures) ∙ not-false _ (c .before .before .before .before .before .before .before .before .before .if1 .left) in
     let same = one-length (a .affected .now) (a .proportions .now) (a .sizes .now) (a .limits .now) n fit in
     let from-sizes =
@@ -78,9 +85,15 @@ returns-2 c =
     outside-both (1 + 5 * n) (1 + 6 * n) (numbersOf Proportion (a .proportions .now)) _ (c .before .before .before .before .first2 .ensures) (c .before .before .before .before .before .slice-fault3 .ensures) from-sizes
     (omega (arith, length-numbers-of Proportion (a .proportions .now), same .proportions)) in
     let from-tracks =
-    outside-both 1 (1 + 5 * n) (tracksNumbers (a .tracks .now)) _ (c .before .before .first3 .ensures) (c .before .before .before .tracks-fault .ensures) from-proportions
+    outside-both 1 (1 + 5 * n) (tracksNumbers (a .tracks .now)) _ (behind .ensures) (rows .ensures .0) from-proportions
     (omega (arith, length-tracks-numbers (a .tracks .now))) in
-    outside-then 0 1 (given Size (a .space)) _ (c .first4 .ensures) (c .before .number-fault .ensures) from-tracks (omega arith) ∙ first-of-passed _ 12 0 _ fit
+    let is = outside-then 0 1 (given Size (a .space)) _ (c .first4 .ensures) (c .before .number-fault .ensures) from-tracks (omega arith) ∙ first-of-passed _ 12 0 _ fit in (
+      is,
+      λ h.
+          distribution-inputs (a .space) (a .tracks .now) (a .affected .now) (a .proportions .now) (a .sizes .now) (a .limits .now) (f32-of-fits (a .space) (entry .good .0 .1))
+          (rows .ensures .1 (both-fine (rows .result) (c .before .before .before .before .first2 .result) (behind .ensures) (both-fine (c .before .number-fault .result) (behind .result) (c .first4 .ensures) (is ∙ h) .1) .0))
+          (f32-of-slice (a .proportions .now) (c .before .before .before .before .before .before .before .before .before .before .before .before .before .shared-slice-known2 .given)) (f32-of-slice (a .sizes .now) (c .before .before .before .before .before .before .before .before .before .before .before .before .shared-slice-known3 .given)) (f32-of-slice (a .limits .now) (c .before .before .before .before .before .before .before .before .before .before .before .shared-slice-known4 .given)) h,
+    )
 
 pub distribution-fault-spec : {M : Type 1} → statement M
 distribution-fault-spec =

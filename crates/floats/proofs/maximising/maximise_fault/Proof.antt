@@ -8,8 +8,9 @@ use lib.ListN.{length}
 use Rattle.domain.specs.declared.kind.Kind.the-variants.{Size, Limit, Factor, Proportion}
 use Rattle.domain.specs.Domain.{given, numbersOf, tracksNumbers, lengthsFit}
 use Rattle.domain.proofs.Outside.{outside-then, outside-both, length-numbers-of, length-tracks-numbers, lengths-fit-head}
-use Rattle.floats.proofs.Fine.{first-of-passed, first-of-failed}
-use Rattle.floats.proofs.Lengths.{one-length}
+use Rattle.domain.proofs.F32.{f32-of-slice}
+use Rattle.floats.proofs.Fine.{first-of-passed, first-of-failed, of-refused, both-fine}
+use Rattle.floats.proofs.Rust.{maximise-inputs}
 use Rattle.floats.specs.Rule.{spaceNumber}
 use borrow.Author.Needs.{needs}
 use Rattle.floats.proofs.maximising.maximise_fault.Statement.{statement}
@@ -19,7 +20,9 @@ two-fit-requires : tie.Need-two-fit-requires
 two-fit-requires c κs = search needs
 
 returns : tie.Need-returns
-returns c = first-of-failed _ 12 0 _ (sym (c .before .two-fit .ensures) ∙ not-true _ (c .if1 .taken))
+returns c =
+    let is = first-of-failed _ 12 0 _ (sym (c .before .two-fit .ensures) ∙ not-true _ (c .if1 .taken)) in
+    (is, of-refused 12 0 is)
 
 mul-slice-fault : tie.Need-mul-slice-fault
 mul-slice-fault c = search needs
@@ -46,11 +49,20 @@ returns-2 : tie.Need-returns-2
 returns-2 c =
     let a = c .before .before .before .before .before .before .before .before .args in
     let n = length (a .tracks .now) in
+    let rows = c .before .before .before .tracks-fault in
+    let behind = c .before .before .first in
     let from-tracks =
-    outside-both 1 (1 + 5 * n) (tracksNumbers (a .tracks .now)) (numbersOf Limit (a .fits .now)) (c .before .before .first .ensures) (c .before .before .before .tracks-fault .ensures) (c .before .before .before .before .slice-fault .ensures)
+    outside-both 1 (1 + 5 * n) (tracksNumbers (a .tracks .now)) (numbersOf Limit (a .fits .now)) (behind .ensures) (rows .ensures .0) (c .before .before .before .before .slice-fault .ensures)
     (omega (arith, length-tracks-numbers (a .tracks .now))) in
+    let is =
     outside-then 0 1 (spaceNumber (a .space)) _ (c .first2 .ensures) (c .before .space-fault .ensures) from-tracks (omega arith)
-    ∙ first-of-passed _ 12 0 _ (sym (c .before .before .before .before .before .before .two-fit .ensures) ∙ not-false _ (c .before .before .before .before .before .if1 .left))
+    ∙ first-of-passed _ 12 0 _ (sym (c .before .before .before .before .before .before .two-fit .ensures) ∙ not-false _ (c .before .before .before .before .before .if1 .left)) in (
+      is,
+      λ h.
+          maximise-inputs (a .tracks .now) (a .fits .now) (a .space)
+          (rows .ensures .1 (both-fine (rows .result) (c .before .before .before .before .slice-fault .result) (behind .ensures) (both-fine (c .before .space-fault .result) (behind .result) (c .first2 .ensures) (is ∙ h) .1) .0))
+          (f32-of-slice (a .fits .now) (c .before .before .before .before .before .before .before .shared-slice-known .given)) h,
+    )
 
 pub maximise-fault-spec : {M : Type 1} → statement M
 maximise-fault-spec =

@@ -8,8 +8,9 @@ use lib.ListN.{length}
 use Rattle.domain.specs.declared.kind.Kind.the-variants.{Size, Limit, Factor, Proportion}
 use Rattle.domain.specs.Domain.{given, numbersOf, tracksNumbers, lengthsFit}
 use Rattle.domain.proofs.Outside.{outside-then, outside-both, length-numbers-of, length-tracks-numbers, lengths-fit-head}
-use Rattle.floats.proofs.Fine.{first-of-passed, first-of-failed}
-use Rattle.floats.proofs.Lengths.{one-length}
+use Rattle.domain.proofs.F32.{f32-of-fits, f32-of-slice}
+use Rattle.floats.proofs.Fine.{first-of-passed, first-of-failed, of-refused, both-fine}
+use Rattle.floats.proofs.Rust.{fr-inputs}
 use borrow.Author.Needs.{needs}
 use Rattle.floats.proofs.searching.fr_fault.Statement.{statement}
 use Rattle.floats.proofs.searching.fr_fault.Tie as tie
@@ -18,7 +19,9 @@ three-fit-requires : tie.Need-three-fit-requires
 three-fit-requires c κs = search needs
 
 returns : tie.Need-returns
-returns c = first-of-failed _ 12 0 _ (sym (c .before .three-fit .ensures) ∙ not-true _ (c .if1 .taken))
+returns c =
+    let is = first-of-failed _ 12 0 _ (sym (c .before .three-fit .ensures) ∙ not-true _ (c .if1 .taken)) in
+    (is, of-refused 12 0 is)
 
 mul-slice-fault : tie.Need-mul-slice-fault
 mul-slice-fault c = search needs
@@ -43,13 +46,23 @@ first-requires-2 c κs = search needs
 
 returns-2 : tie.Need-returns-2
 returns-2 c =
-    let a = c .before .before .before .before .before .before .before .before .before .args in
+    let entry = c .before .before .before .before .before .before .before .before .before in
+    let a = entry .args in
     let n = length (a .tracks .now) in
+    let rows = c .before .before .before .tracks-fault in
+    let behind = c .before .before .first in
     let from-tracks =
-    outside-both 1 (1 + 5 * n) (tracksNumbers (a .tracks .now)) (numbersOf Factor (a .factors .now)) (c .before .before .first .ensures) (c .before .before .before .tracks-fault .ensures) (c .before .before .before .before .slice-fault .ensures)
+    outside-both 1 (1 + 5 * n) (tracksNumbers (a .tracks .now)) (numbersOf Factor (a .factors .now)) (behind .ensures) (rows .ensures .0) (c .before .before .before .before .slice-fault .ensures)
     (omega (arith, length-tracks-numbers (a .tracks .now))) in
+    let is =
     outside-then 0 1 (given Size (a .space)) _ (c .first2 .ensures) (c .before .number-fault .ensures) from-tracks (omega arith)
-    ∙ first-of-passed _ 12 0 _ (sym (c .before .before .before .before .before .before .three-fit .ensures) ∙ not-false _ (c .before .before .before .before .before .if1 .left))
+    ∙ first-of-passed _ 12 0 _ (sym (c .before .before .before .before .before .before .three-fit .ensures) ∙ not-false _ (c .before .before .before .before .before .if1 .left)) in (
+      is,
+      λ h.
+          fr-inputs (a .tracks .now) (a .flexible .now) (a .factors .now) (a .space)
+          (rows .ensures .1 (both-fine (rows .result) (c .before .before .before .before .slice-fault .result) (behind .ensures) (both-fine (c .before .number-fault .result) (behind .result) (c .first2 .ensures) (is ∙ h) .1) .0))
+          (f32-of-slice (a .factors .now) (c .before .before .before .before .before .before .before .shared-slice-known2 .given)) (f32-of-fits (a .space) (entry .good .1 .1 .1 .0 .1)) h,
+    )
 
 pub fr-fault-spec : {M : Type 1} → statement M
 fr-fault-spec =

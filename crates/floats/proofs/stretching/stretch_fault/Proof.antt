@@ -8,8 +8,9 @@ use lib.ListN.{length}
 use Rattle.domain.specs.declared.kind.Kind.the-variants.{Size, Limit, Factor, Proportion}
 use Rattle.domain.specs.Domain.{given, numbersOf, tracksNumbers, lengthsFit}
 use Rattle.domain.proofs.Outside.{outside-then, outside-both, length-numbers-of, length-tracks-numbers, lengths-fit-head}
-use Rattle.floats.proofs.Fine.{first-of-passed, first-of-failed}
-use Rattle.floats.proofs.Lengths.{one-length}
+use Rattle.domain.proofs.F32.{f32-of-size, f32-of-space}
+use Rattle.floats.proofs.Fine.{first-of-passed, first-of-failed, of-refused, both-fine}
+use Rattle.floats.proofs.Rust.{stretch-inputs}
 use Rattle.floats.specs.Rule.{sizeNumber, spaceNumber}
 use borrow.Author.Needs.{needs}
 use Rattle.floats.proofs.stretching.stretch_fault.Statement.{statement}
@@ -19,7 +20,9 @@ two-fit-requires : tie.Need-two-fit-requires
 two-fit-requires c κs = search needs
 
 returns : tie.Need-returns
-returns c = first-of-failed _ 12 0 _ (sym (c .before .two-fit .ensures) ∙ not-true _ (c .if1 .taken))
+returns c =
+    let is = first-of-failed _ 12 0 _ (sym (c .before .two-fit .ensures) ∙ not-true _ (c .if1 .taken)) in
+    (is, of-refused 12 0 is)
 
 tracks-fault-requires : tie.Need-tracks-fault-requires
 tracks-fault-requires c κs = search needs
@@ -38,10 +41,20 @@ first-requires-2 c κs = search needs
 
 returns-2 : tie.Need-returns-2
 returns-2 c =
-    let a = c .before .before .before .before .before .before .before .before .args in
-    let from-space = outside-then 1 2 (spaceNumber (a .space)) (tracksNumbers (a .tracks .now)) (c .before .before .first .ensures) (c .before .before .before .space-fault .ensures) (c .before .before .before .before .tracks-fault .ensures) (omega arith) in
+    let entry = c .before .before .before .before .before .before .before .before in
+    let a = entry .args in
+    let rows = c .before .before .before .before .tracks-fault in
+    let behind = c .before .before .first in
+    let from-space = outside-then 1 2 (spaceNumber (a .space)) (tracksNumbers (a .tracks .now)) (behind .ensures) (c .before .before .before .space-fault .ensures) (rows .ensures .0) (omega arith) in
+    let is =
     outside-then 0 1 (sizeNumber (a .minimum)) _ (c .first2 .ensures) (c .before .size-fault .ensures) from-space (omega arith)
-    ∙ first-of-passed _ 12 0 _ (sym (c .before .before .before .before .before .before .two-fit .ensures) ∙ not-false _ (c .before .before .before .before .before .if1 .left))
+    ∙ first-of-passed _ 12 0 _ (sym (c .before .before .before .before .before .before .two-fit .ensures) ∙ not-false _ (c .before .before .before .before .before .if1 .left)) in (
+      is,
+      λ h.
+          stretch-inputs (a .tracks .now) (a .autos .now) (a .minimum) (a .space)
+          (rows .ensures .1 (both-fine (c .before .before .before .space-fault .result) (rows .result) (behind .ensures) (both-fine (c .before .size-fault .result) (behind .result) (c .first2 .ensures) (is ∙ h) .1) .1))
+          (f32-of-size (a .minimum) _ (entry .good .1 .1 .0)) (f32-of-space (a .space) _ (entry .good .1 .1 .1 .0)) h,
+    )
 
 pub stretch-fault-spec : {M : Type 1} → statement M
 stretch-fault-spec =

@@ -45,7 +45,7 @@ returns-2 c =
     let call = c .before .before .before .compute-alignment-gutter-adjustment in
     let lists = c .before .before .before .before .before .word .given in
     let gives = c .before .answer .given in
-    number-writes (call .result) _ (call .ensures ∙ gutter-listed (alignmentAs (entry .alignment)) (sizeAs (entry .given) (entry .inner)) (entry .known .now) (entry .estimates .now) (lists .0 .0) (c .before .before .before .before .before .before .before .size-of .result) (sym (c .before .before .before .before .before .before .before .before .alignment-of .ensures) ∙ lists .1) (c .before .before .before .before .before .before .before .size-of .ensures)) (entry .gutter .now) (entry .place .now) (gives .0 .0) (gives .1)
+    number-writes (call .result) _ (call .ensures .0 ∙ gutter-listed (alignmentAs (entry .alignment)) (sizeAs (entry .given) (entry .inner)) (entry .known .now) (entry .estimates .now) (lists .0 .0) (c .before .before .before .before .before .before .before .size-of .result) (sym (c .before .before .before .before .before .before .before .before .alignment-of .ensures) ∙ lists .1) (c .before .before .before .before .before .before .before .size-of .ensures)) (entry .gutter .now) (entry .place .now) (gives .0 .0) (gives .1)
 
 returns-3 : tie.Need-returns-3
 returns-3 c =
@@ -53,7 +53,7 @@ returns-3 c =
     let call = c .before .before .before .before .before .compute-alignment-gutter-adjustment in
     let lists = c .before .before .before .before .before .before .before .word .given in
     let refuses = c .before .before .before .answer2 .given in
-    number-refused (call .result) _ (call .ensures ∙ gutter-listed (alignmentAs (entry .alignment)) (sizeAs (entry .given) (entry .inner)) (entry .known .now) (entry .estimates .now) (lists .0 .0) (c .before .before .before .before .before .before .before .before .before .size-of .result) (sym (c .before .before .before .before .before .before .before .before .before .before .alignment-of .ensures) ∙ lists .1) (c .before .before .before .before .before .before .before .before .before .size-of .ensures)) (entry .gutter .now) (entry .place .now) (refuses .0 .0) _ _ (refuses .1) (c .number .ensures) (c .before .place .ensures)
+    number-refused (call .result) _ (call .ensures .0 ∙ gutter-listed (alignmentAs (entry .alignment)) (sizeAs (entry .given) (entry .inner)) (entry .known .now) (entry .estimates .now) (lists .0 .0) (c .before .before .before .before .before .before .before .before .before .size-of .result) (sym (c .before .before .before .before .before .before .before .before .before .before .alignment-of .ensures) ∙ lists .1) (c .before .before .before .before .before .before .before .before .before .size-of .ensures)) (entry .gutter .now) (entry .place .now) (refuses .0 .0) _ _ (refuses .1) (c .number .ensures) (c .before .place .ensures)
 
 pub torrivask-compute-alignment-gutter-adjustment-spec : {M : Type 1} → statement M
 torrivask-compute-alignment-gutter-adjustment-spec =

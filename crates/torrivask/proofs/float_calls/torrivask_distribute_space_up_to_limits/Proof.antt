@@ -27,7 +27,7 @@ returns c =
     let entry = c .before .before .before .before .before .before .before .before .before .before .args in
     let call = c .before .before .before .before .distribute-space-up-to-limits in
     let gives = c .before .answer .given in
-    shared-writes (call .result) _ _ (call .ensures) (entry .left .now) (entry .place .now) (gives .0 .0) (gives .1)
+    shared-writes (call .result) _ _ (call .ensures .0) (entry .left .now) (entry .place .now) (gives .0 .0) (gives .1)
 
 same-length-2 : tie.Need-same-length-2
 same-length-2 c = search needs
@@ -37,7 +37,7 @@ returns-2 c =
     let entry = c .before .before .before .before .before .before .before .before .before .before .before .before .args in
     let call = c .before .before .before .before .before .before .distribute-space-up-to-limits in
     let refuses = c .before .before .before .answer2 .given in
-    shared-refused (call .result) _ _ (call .ensures) (entry .left .now) (entry .place .now) (refuses .0 .0) _ _ (refuses .1) (c .number .ensures) (c .before .place .ensures)
+    shared-refused (call .result) _ _ (call .ensures .0) (entry .left .now) (entry .place .now) (refuses .0 .0) _ _ (refuses .1) (c .number .ensures) (c .before .place .ensures)
 
 pub torrivask-distribute-space-up-to-limits-spec : {M : Type 1} → statement M
 torrivask-distribute-space-up-to-limits-spec =

@@ -24,14 +24,14 @@ returns c =
     let entry = c .before .before .before .before .before .before .args in
     let call = c .before .before .before .find-size-of-fr in
     let gives = c .before .answer .given in
-    number-writes (call .result) _ (call .ensures) (entry .size .now) (entry .place .now) (gives .0 .0) (gives .1)
+    number-writes (call .result) _ (call .ensures .0) (entry .size .now) (entry .place .now) (gives .0 .0) (gives .1)
 
 returns-2 : tie.Need-returns-2
 returns-2 c =
     let entry = c .before .before .before .before .before .before .before .before .args in
     let call = c .before .before .before .before .before .find-size-of-fr in
     let refuses = c .before .before .before .answer2 .given in
-    number-refused (call .result) _ (call .ensures) (entry .size .now) (entry .place .now) (refuses .0 .0) _ _ (refuses .1) (c .number .ensures) (c .before .place .ensures)
+    number-refused (call .result) _ (call .ensures .0) (entry .size .now) (entry .place .now) (refuses .0 .0) _ _ (refuses .1) (c .number .ensures) (c .before .place .ensures)
 
 pub torrivask-find-size-of-fr-spec : {M : Type 1} → statement M
 torrivask-find-size-of-fr-spec =

@@ -32,14 +32,14 @@ returns c =
     let entry = c .before .before .before .before .before .before .before .args in
     let call = c .before .before .before .before .flush-planned-base-size-increases in
     let flushes = c .before .before .answer .given in
-    track-writes (call .result) _ (call .ensures ∙ ap flushBaseCall (c .before .before .before .before .before .new .ensures)) (entry .track .now) (entry .place .now) (flushes .0 .0) _ (flushes .1) (c .row .ensures)
+    track-writes (call .result) _ (call .ensures .0 ∙ ap flushBaseCall (c .before .before .before .before .before .new .ensures)) (entry .track .now) (entry .place .now) (flushes .0 .0) _ (flushes .1) (c .row .ensures)
 
 returns-2 : tie.Need-returns-2
 returns-2 c =
     let entry = c .before .before .before .before .before .before .before .before .args in
     let call = c .before .before .before .before .before .flush-planned-base-size-increases in
     let refuses = c .before .before .before .answer2 .given in
-    track-refused (call .result) _ (call .ensures ∙ ap flushBaseCall (c .before .before .before .before .before .before .new .ensures)) (entry .track .now) (entry .place .now) (refuses .0 .0) _ _ (refuses .1) (c .number .ensures) (c .before .place .ensures)
+    track-refused (call .result) _ (call .ensures .0 ∙ ap flushBaseCall (c .before .before .before .before .before .before .new .ensures)) (entry .track .now) (entry .place .now) (refuses .0 .0) _ _ (refuses .1) (c .number .ensures) (c .before .place .ensures)
 
 pub torrivask-flush-planned-base-size-increases-spec : {M : Type 1} → statement M
 torrivask-flush-planned-base-size-increases-spec =

@@ -34,14 +34,14 @@ returns c =
     let entry = c .before .before .before .before .before .before .before .args in
     let call = c .before .before .before .before .flush-planned-growth-limit-increases in
     let flushes = c .before .before .answer .given in
-    marked-writes (call .result) _ (call .ensures ∙ ap (λ (t : Track). flushLimitCall t (entry .mark)) (c .before .before .before .before .before .new .ensures)) (entry .track .now) (entry .place .now) (entry .growable .now) (flushes .0 .0) _ (flushes .1) (c .row .ensures)
+    marked-writes (call .result) _ (call .ensures .0 ∙ ap (λ (t : Track). flushLimitCall t (entry .mark)) (c .before .before .before .before .before .new .ensures)) (entry .track .now) (entry .place .now) (entry .growable .now) (flushes .0 .0) _ (flushes .1) (c .row .ensures)
 
 returns-2 : tie.Need-returns-2
 returns-2 c =
     let entry = c .before .before .before .before .before .before .before .before .args in
     let call = c .before .before .before .before .before .flush-planned-growth-limit-increases in
     let refuses = c .before .before .before .answer2 .given in
-    marked-refused (call .result) _ (call .ensures ∙ ap (λ (t : Track). flushLimitCall t (entry .mark)) (c .before .before .before .before .before .before .new .ensures)) (entry .track .now) (entry .place .now) (entry .growable .now) (refuses .0 .0) _ _ (refuses .1) (c .number .ensures) (c .before .place .ensures)
+    marked-refused (call .result) _ (call .ensures .0 ∙ ap (λ (t : Track). flushLimitCall t (entry .mark)) (c .before .before .before .before .before .before .new .ensures)) (entry .track .now) (entry .place .now) (entry .growable .now) (refuses .0 .0) _ _ (refuses .1) (c .number .ensures) (c .before .place .ensures)
 
 pub torrivask-flush-planned-growth-limit-increases-spec : {M : Type 1} → statement M
 torrivask-flush-planned-growth-limit-increases-spec =

@@ -43,7 +43,7 @@ returns-2 c =
     let entry = c .before .before .before .before .before .before .before .before .before .before .args in
     let call = c .before .before .before .maximise-tracks in
     let lists = c .before .before .before .before .before .before .word .given in
-    tracks-write (call .result) _ _ (call .ensures ∙ maximise-listed (entry .tracks .now) (entry .fits .now) (spaceAs (entry .kind) (entry .space)) (lists .0 .0) (sym (c .before .before .before .before .before .before .before .before .space-of .ensures) ∙ lists .1)) (entry .place .now) (c .enum-told2 .given .1)
+    tracks-write (call .result) _ _ (call .ensures .0 ∙ maximise-listed (entry .tracks .now) (entry .fits .now) (spaceAs (entry .kind) (entry .space)) (lists .0 .0) (sym (c .before .before .before .before .before .before .before .before .space-of .ensures) ∙ lists .1)) (entry .place .now) (c .enum-told2 .given .1)
 
 same-length-2 : tie.Need-same-length-2
 same-length-2 c = search needs
@@ -54,7 +54,7 @@ returns-3 c =
     let call = c .before .before .before .before .before .before .maximise-tracks in
     let lists = c .before .before .before .before .before .before .before .before .before .word .given in
     let refuses = c .before .before .before .answer .given in
-    tracks-refused (call .result) _ _ (call .ensures ∙ maximise-listed (entry .tracks .now) (entry .fits .now) (spaceAs (entry .kind) (entry .space)) (lists .0 .0) (sym (c .before .before .before .before .before .before .before .before .before .before .before .space-of .ensures) ∙ lists .1)) (entry .place .now) (refuses .0 .0) _ _ (refuses .1) (c .number .ensures) (c .before .place .ensures)
+    tracks-refused (call .result) _ _ (call .ensures .0 ∙ maximise-listed (entry .tracks .now) (entry .fits .now) (spaceAs (entry .kind) (entry .space)) (lists .0 .0) (sym (c .before .before .before .before .before .before .before .before .before .before .before .space-of .ensures) ∙ lists .1)) (entry .place .now) (refuses .0 .0) _ _ (refuses .1) (c .number .ensures) (c .before .place .ensures)
 
 pub torrivask-maximise-tracks-spec : {M : Type 1} → statement M
 torrivask-maximise-tracks-spec =

@@ -46,7 +46,7 @@ returns-2 c =
     let entry = c .before .before .before .before .before .before .before .before .before .before .before .args in
     let call = c .before .before .before .stretch-auto-tracks in
     let lists = c .before .before .before .before .before .before .word .given in
-    tracks-write (call .result) _ _ (call .ensures ∙ stretch-listed (entry .tracks .now) (entry .autos .now) (sizeAs (entry .given) (entry .minimum)) (spaceAs (entry .kind) (entry .space)) (lists .0 .0) (c .before .before .before .before .before .before .before .before .size-of .result) (sym (c .before .before .before .before .before .before .before .before .before .space-of .ensures) ∙ lists .1) (c .before .before .before .before .before .before .before .before .size-of .ensures)) (entry .place .now) (c .enum-told2 .given .1)
+    tracks-write (call .result) _ _ (call .ensures .0 ∙ stretch-listed (entry .tracks .now) (entry .autos .now) (sizeAs (entry .given) (entry .minimum)) (spaceAs (entry .kind) (entry .space)) (lists .0 .0) (c .before .before .before .before .before .before .before .before .size-of .result) (sym (c .before .before .before .before .before .before .before .before .before .space-of .ensures) ∙ lists .1) (c .before .before .before .before .before .before .before .before .size-of .ensures)) (entry .place .now) (c .enum-told2 .given .1)
 
 same-length-2 : tie.Need-same-length-2
 same-length-2 c = search needs
@@ -57,7 +57,7 @@ returns-3 c =
     let call = c .before .before .before .before .before .before .stretch-auto-tracks in
     let lists = c .before .before .before .before .before .before .before .before .before .word .given in
     let refuses = c .before .before .before .answer .given in
-    tracks-refused (call .result) _ _ (call .ensures ∙ stretch-listed (entry .tracks .now) (entry .autos .now) (sizeAs (entry .given) (entry .minimum)) (spaceAs (entry .kind) (entry .space)) (lists .0 .0) (c .before .before .before .before .before .before .before .before .before .before .before .size-of .result) (sym (c .before .before .before .before .before .before .before .before .before .before .before .before .space-of .ensures) ∙ lists .1) (c .before .before .before .before .before .before .before .before .before .before .before .size-of .ensures)) (entry .place .now) (refuses .0 .0) _ _ (refuses .1) (c .number .ensures) (c .before .place .ensures)
+    tracks-refused (call .result) _ _ (call .ensures .0 ∙ stretch-listed (entry .tracks .now) (entry .autos .now) (sizeAs (entry .given) (entry .minimum)) (spaceAs (entry .kind) (entry .space)) (lists .0 .0) (c .before .before .before .before .before .before .before .before .before .before .before .size-of .result) (sym (c .before .before .before .before .before .before .before .before .before .before .before .before .space-of .ensures) ∙ lists .1) (c .before .before .before .before .before .before .before .before .before .before .before .size-of .ensures)) (entry .place .now) (refuses .0 .0) _ _ (refuses .1) (c .number .ensures) (c .before .place .ensures)
 
 pub torrivask-stretch-auto-tracks-spec : {M : Type 1} → statement M
 torrivask-stretch-auto-tracks-spec =

@@ -3,8 +3,7 @@
 use mathlib.Core.Path.{_≡_, sym, subst}
 use mathlib.Core.Bool.{true}
 use mathlib.Core.List.{List, [], _∷_}
-use Prim.Native.Nat.{ℕ, zero, suc, _<_}
-use native.Mathlib.Omega.{arith}
+use Prim.Native.Nat.{ℕ, _<_}
 use lib.Dec.{T}
 use lib.ListN.{length, getD}
 use lib.Ieee.{Float, nan, binary32, fits}
@@ -15,6 +14,7 @@ use denote.Floats.{FloatOf}
 use denote.Laws.{Is}
 use denote.Shadow.{shadow}
 use Rattle.laws.specs.Lists.{All}
+use Rattle.laws.specs.Alls.{all-of-at}
 use Rattle.float_laws.specs.Numbers.{IsF32}
 use Rattle.float_track.specs.declared.space.AvailableSpace.{AvailableSpace}
 use Rattle.float_track.specs.declared.space.AvailableSpace.the-variants.{Definite, MinContent, MaxContent}
@@ -52,11 +52,6 @@ f32-of-space (Definite x) vs h = f32-of-fits x (h .1 .1 .1 .1 .0 .1)
 f32-of-space MinContent vs h = tt
 f32-of-space MaxContent vs h = tt
 
--- what holds at every index holds of all
-pub all-of-at : {A : Type 0} (P : A → Type 0) (xs : List A) (d : A) → ((i : ℕ) → i < length xs → P (getD xs i d)) → All P xs
-unfolding All
-all-of-at P [] d h = tt
-all-of-at P (x ∷ xs) d h = (h zero (omega arith), all-of-at P xs d (λ (i : ℕ) (l : i < length xs). h (suc i) (omega arith)))
-
+-- a slice, of which every index is known
 pub f32-of-slice : (xs : List Float) → ((i : ℕ) → IsF32 (getD xs i nan)) → All IsF32 xs
 f32-of-slice xs each-is = all-of-at IsF32 xs nan (λ (i : ℕ) (l : i < length xs). each-is i)

@@ -36,7 +36,7 @@ pub fn slice_fault(from: usize, kind: Kind, xs: &[f32]) -> Fault
     Fault::Fine
 }
 
-// A track record's five numbers, as listed. A row by value is known to hold f32 numbers, which of a lent row nothing else tells.
+// A track record's five numbers, as listed. Of a row by value it is known that they are f32, which nothing else tells of a lent one.
 pub fn track_fault(from: usize, row: [f32; 5]) -> Fault
     requires { ⌜ from < 2 ^ 63 ⌝ }
     ensures { λ r. ⌜ findingOf r ≡ outsideFrom from (trackNumbers row) ⌝ }

@@ -12,7 +12,7 @@ use Rattle.float_laws.specs.Numbers.{IsF32}
 use Rattle.domain.specs.declared.kind.Kind.{Kind}
 use Rattle.domain.specs.declared.kind.Kind.the-variants.{Size, Limit, Factor, Proportion}
 use Rattle.domain.specs.Domain as Domain
-use Rattle.domain.specs.Domain.{Number, given, numbersOf, trackNumbers, tracksNumbers, Finding, fine, first, unless, lengthsFit, lengthsFinding, outsideFrom}
+use Rattle.domain.specs.Domain.{Number, given, numbersOf, trackNumbers, tracksNumbers, Finding, fine, first, unless, lengthsFinding, outsideFrom}
 use Rattle.domain.proofs.F32.{SizeF32, SpaceF32}
 use Rattle.domain.proofs.Outside.{IsAccepted, accepted-of-fine, first-fine, lengths-fit-head}
 use Rattle.float_track.specs.declared.track.Track.{Track}
@@ -23,7 +23,7 @@ use Rattle.float_track.specs.declared.space.OptionalSize.the-variants.{Given, A
 use Rattle.float_track.specs.Track.{rowOf}
 use Rattle.gutters.specs.declared.AlignContent.{AlignContent}
 use Rattle.gutters.specs.Gutters.{gutterAdjustment}
-use Rattle.distribution.specs.Distribution.{Left, lists, left, passes}
+use Rattle.distribution.specs.Distribution.{lists, left, passes}
 use Rattle.fr_size.specs.Fr.{frSize}
 use Rattle.maximise.specs.Maximise.{maximised}
 use Rattle.agreement.specs.Inputs.{IsOf, TrackInputs, SizeInput, SpaceInput, FrInputs, GutterInputs, DistributionInputs, MaximiseInputs, StretchInputs}

@@ -1,6 +1,7 @@
 -- What holds of each element. Assumes nothing.
 use mathlib.Core.List.{List, [], _∷_, _++_, map}
 use Prim.Native.Nat.{ℕ, zero, suc, _<_}
+use native.Mathlib.Omega.{arith}
 use lib.ListN.{length, getD, take, drop, length-map, List·getD-map}
 use Rattle.laws.specs.Lists.{All, all-at}
 
@@ -16,6 +17,12 @@ module _ {A : Type 0} (P Q : A → Type 0) where
   all-both (x ∷ xs) ps qs = ((ps .0, qs .0), all-both xs (ps .1) (qs .1))
 
 module _ {A : Type 0} (P : A → Type 0) where
+  -- at every place
+  pub all-of-at : (xs : List A) (d : A) → ((i : ℕ) → i < length xs → P (getD xs i d)) → All P xs
+  unfolding All
+  all-of-at [] d h = tt
+  all-of-at (x ∷ xs) d h = (h zero (omega arith), all-of-at xs d (λ (i : ℕ) (l : i < length xs). h (suc i) (omega arith)))
+
   -- in each part of the list
   pub all-take : (n : ℕ) (xs : List A) → All P xs → All P (take n xs)
   unfolding All

@@ -8,10 +8,10 @@ use lib.ListN.{length, drop, getD}
 use borrow.Author.Count.{below-none, below-more}
 use borrow.Author.Needs.{needs}
 use Rattle.laws.specs.Lists.{All}
+use Rattle.laws.specs.Alls.{all-of-at}
 use Rattle.float_laws.specs.Numbers.{IsF32}
 use Rattle.domain.specs.Domain.{tracksNumbers, outsideFrom}
 use Rattle.domain.proofs.Outside.{tracks-from, tracks-end, outside-found, outside-next, outside-end, found-not-fine}
-use Rattle.domain.proofs.F32.{all-of-at}
 use Rattle.domain.proofs.numbers.tracks_fault.Statement.{statement}
 use Rattle.domain.proofs.numbers.tracks_fault.Tie as tie
 

@@ -1,10 +1,6 @@
 -- `compute_alignment_gutter_adjustment`: the refusal, or the adjustment. Assumes nothing.
-use mathlib.Core.Path.{_≡_, refl, sym, _∙_, ap}
-use mathlib.Core.List.{[], _∷_, _++_}
-use Prim.Native.Nat.{_+_}
-use lib.ListN.{length}
-use Rattle.domain.specs.Domain.{outsideFrom, numbersOf, tracksNumbers, given}
-use Rattle.domain.specs.declared.kind.Kind.the-variants.{Size, Limit, Factor}
+use mathlib.Core.Path.{_∙_, ap}
+use Rattle.domain.specs.Domain.{given}
 use Rattle.gutters.specs.Gutters.{gutterAdjustment}
 use Rattle.floats.proofs.Calls.{finding-of-fine, told-refused, told-answer}
 use Rattle.floats.proofs.Lengths.{gutter-count}

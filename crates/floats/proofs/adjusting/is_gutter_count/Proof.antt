@@ -1,8 +1,6 @@
 -- `is_gutter_count`, by its three tests. Assumes nothing.
 use mathlib.Core.Path.{refl}
-use lib.Dec.{eqb}
 use borrow.Author.Tests.{eq-eqb, ne-eqb}
-use borrow.Author.Needs.{needs}
 use Rattle.floats.proofs.adjusting.is_gutter_count.Statement.{statement}
 use Rattle.floats.proofs.adjusting.is_gutter_count.Tie as tie
 

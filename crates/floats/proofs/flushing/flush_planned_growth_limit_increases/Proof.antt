@@ -1,5 +1,5 @@
 -- `flush_planned_growth_limit_increases`: the refusal of its track, or the track flushed. Assumes nothing.
-use mathlib.Core.Path.{_≡_, refl, sym, _∙_, ap, subst}
+use mathlib.Core.Path.{_∙_, ap, subst}
 use mathlib.Core.List.{List}
 use lib.Ieee.{Float}
 use Rattle.domain.specs.Domain.{outsideFrom, trackNumbers}
@@ -8,8 +8,7 @@ use Rattle.float_laws.specs.Numbers.{IsF32}
 use Rattle.floats.proofs.Calls.{told-refused, told-answer}
 use Rattle.floats.proofs.Rust.{flush-inputs}
 use Rattle.floats.specs.Rule.{flushFinding, flushed}
-use Rattle.float_track.specs.Track.{flushBase, flushLimit}
-use Rattle.float_track.specs.declared.track.Track.{Track}
+use Rattle.float_track.specs.Track.{flushLimit}
 use borrow.Author.Needs.{needs}
 use Rattle.floats.proofs.flushing.flush_planned_growth_limit_increases.Statement.{statement}
 use Rattle.floats.proofs.flushing.flush_planned_growth_limit_increases.Tie as tie

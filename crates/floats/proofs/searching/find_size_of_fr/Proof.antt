@@ -1,10 +1,10 @@
 -- `find_size_of_fr`: the refusal, or the size. Assumes nothing.
-use mathlib.Core.Path.{_≡_, refl, sym, _∙_, ap}
+use mathlib.Core.Path.{_∙_, ap}
 use mathlib.Core.List.{[], _∷_, _++_}
 use Prim.Native.Nat.{_+_}
 use lib.ListN.{length}
 use Rattle.domain.specs.Domain.{outsideFrom, numbersOf, tracksNumbers, given}
-use Rattle.domain.specs.declared.kind.Kind.the-variants.{Size, Limit, Factor}
+use Rattle.domain.specs.declared.kind.Kind.the-variants.{Size, Factor}
 use Rattle.fr_size.specs.Fr.{frSize}
 use Rattle.floats.proofs.Calls.{finding-of-fine, told-refused, told-answer}
 use Rattle.floats.proofs.Fine.{lengths-of-fine}

@@ -1,10 +1,8 @@
 -- `stretch_auto_tracks`: the refusal, or the tracks stretched. Assumes nothing.
-use mathlib.Core.Path.{_≡_, refl, sym, _∙_, ap}
-use mathlib.Core.List.{[], _∷_, _++_}
-use Prim.Native.Nat.{_+_}
+use mathlib.Core.Path.{_∙_, ap}
+use mathlib.Core.List.{[], _∷_}
 use lib.ListN.{length}
-use Rattle.domain.specs.Domain.{outsideFrom, numbersOf, tracksNumbers, given}
-use Rattle.domain.specs.declared.kind.Kind.the-variants.{Size, Limit, Factor}
+use Rattle.domain.specs.Domain.{outsideFrom, tracksNumbers, given}
 use Rattle.stretch.specs.Stretch.{stretched}
 use Rattle.floats.proofs.Calls.{finding-of-fine, outcome-refused, outcome-answer}
 use Rattle.floats.proofs.Fine.{lengths-of-fine}

@@ -1,4 +1,5 @@
--- What the theorems ask of a call's numbers: each is an f32 in the domain of its kind, as refusal 13 tests it, and the lists have the lengths that 12 asks. Assumes nothing.
+-- What a call that is not refused is known to be handed, and the theorems ask: each number is an f32 in the domain of its kind, as refusal 13 tests it,
+-- and the lists have the lengths that 12 asks. Assumes nothing.
 use mathlib.Core.Path.{_≡_}
 use mathlib.Core.Bool.{Bool, true}
 use mathlib.Core.List.{List}

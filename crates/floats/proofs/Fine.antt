@@ -17,7 +17,7 @@ module _ (test : Bool) (n place : ℕ) (rest : Finding) where
   pub first-of-failed : test ≡ false → refused n place ≡ first (unless test (refused n place)) rest
   first-of-failed e = rw e refl
 
--- what a refusal is told by is not fine, so anything may be asked of it
+-- a refusal is not fine, so nothing has to be shown of it
 pub of-refused : {X : Type 0} (n place : ℕ) {finding : Finding} → refused n place ≡ finding → finding ≡ fine → X
 of-refused n place is none = absurd (refused-not-fine n place (is ∙ none))
 

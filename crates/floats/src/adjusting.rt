@@ -42,6 +42,7 @@ fn is_gutter_count(count: usize) -> bool
     count % 2 == 1
 }
 
+// What refuses the call. Where nothing does, its numbers are known to be f32 in their domains.
 fn gutter_fault(inner: OptionalSize, known: &[bool], estimates: &[f32]) -> Fault
     ensures { λ r. ⌜ findingOf r ≡ gutterFinding inner (now (known .entry)) (now (estimates .entry)) ⌝ }
     ensures { λ r. ⌜ (gutterFinding inner (now (known .entry)) (now (estimates .entry)) ≡ fine → GutterInputs inner (now (known .entry)) (now (estimates .entry))) ⌝ }

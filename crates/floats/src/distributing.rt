@@ -17,6 +17,7 @@ ghost use Rattle.floats.specs.Rule.{outcome, distributionFinding, distri
 ghost use Rattle.floats.specs.Rust.{rustDistributionCall};
 ghost use Rattle.floats.specs.Answer.{numberTold};
 
+// What refuses the call. Where nothing does, its numbers are known to be f32 in their domains.
 fn distribution_fault(
     space: f32,
     tracks: &[[f32; 5]],

@@ -1,5 +1,8 @@
 // The float routines as calls (specs/Rule.antt is the rule, docs/PROMISES.md the promises in words): a call outside the
 // domain is refused by 12, 14 or 13 and changes nothing; any other takes the Rust's float steps in the Rust's order.
+//
+// The second clause of a contract says that Rust's own minimum and maximum give the same (specs/Rust.antt); of a call that takes neither, that its
+// numbers are f32 in their domains.
 mod adjusting;
 mod answer;
 mod distributing;

@@ -30,6 +30,7 @@ pub(crate) fn space_fault(index: usize, space: AvailableSpace) -> Fault
     }
 }
 
+// What refuses the call. Where nothing does, its numbers are known to be f32 in their domains.
 fn maximise_fault(tracks: &[[f32; 5]], fits: &[f32], space: AvailableSpace) -> Fault
     ensures { λ r. ⌜ findingOf r ≡ maximiseFinding (now (tracks .entry)) (now (fits .entry)) space ⌝ }
     ensures { λ r. ⌜ (maximiseFinding (now (tracks .entry)) (now (fits .entry)) space ≡ fine → MaximiseInputs (now (tracks .entry)) (now (fits .entry))) ⌝ }

@@ -17,6 +17,7 @@ ghost use Rattle.floats.specs.Rule.{frFinding, frCall};
 ghost use Rattle.floats.specs.Rust.{rustFrCall};
 ghost use Rattle.floats.specs.Answer.{numberTold};
 
+// What refuses the call. Where nothing does, its numbers are known to be f32 in their domains.
 fn fr_fault(tracks: &[[f32; 5]], flexible: &[bool], factors: &[f32], space: f32) -> Fault
     ensures { λ r. ⌜ findingOf r ≡ frFinding (now (tracks .entry)) (now (flexible .entry)) (now (factors .entry)) space ⌝ }
     ensures { λ r. ⌜ (frFinding (now (tracks .entry)) (now (flexible .entry)) (now (factors .entry)) space ≡ fine → FrInputs (now (tracks .entry)) (now (flexible .entry)) (now (factors .entry)) space) ⌝ }

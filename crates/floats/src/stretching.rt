@@ -15,6 +15,7 @@ ghost use Rattle.agreement.specs.Inputs.{StretchInputs};
 ghost use Rattle.floats.specs.Rule.{outcome, stretchFinding, stretchCall};
 ghost use Rattle.floats.specs.Answer.{tracksTold};
 
+// What refuses the call. Where nothing does, its numbers are known to be f32 in their domains.
 fn stretch_fault(
     tracks: &[[f32; 5]],
     autos: &[bool],

@@ -1,4 +1,4 @@
--- `compute_alignment_gutter_adjustment`: the refusal, or the adjustment. Assumes nothing.
+-- `compute_alignment_gutter_adjustment`: the refusal, or the adjustment, which is the one with Rust's maximum. Assumes nothing.
 use mathlib.Core.Path.{_∙_, ap}
 use Rattle.domain.specs.Domain.{given}
 use Rattle.gutters.specs.Gutters.{gutterAdjustment}

@@ -1,4 +1,4 @@
--- `gutter_fault`: the lengths, the count, then the numbers. Assumes nothing.
+-- `gutter_fault`: the lengths, the count, then the numbers; where it finds nothing, the inputs are met. Assumes nothing.
 use mathlib.Core.Path.{sym, _∙_}
 use native.Mathlib.Omega.{arith}
 use borrow.Author.Tests.{not-true, not-false}

@@ -1,4 +1,4 @@
--- `distribute_space_up_to_limits`: the refusal, or the passes. Assumes nothing.
+-- `distribute_space_up_to_limits`: the refusal, or the passes, which are those with Rust's minimum. Assumes nothing.
 use mathlib.Core.Path.{_∙_, ap}
 use mathlib.Core.List.{[], _∷_}
 use Prim.Native.Nat.{_+_}

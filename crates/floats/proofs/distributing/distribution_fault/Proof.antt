@@ -1,4 +1,4 @@
--- `distribution_fault`: the lengths, then the numbers from the last slice to the first. Assumes nothing.
+-- `distribution_fault`: the lengths, then the numbers from the last slice to the first; where it finds nothing, the inputs are met. Assumes nothing.
 use mathlib.Core.Path.{sym, _∙_}
 use Prim.Native.Nat.{_+_, _*_}
 use native.Mathlib.Omega.{arith}

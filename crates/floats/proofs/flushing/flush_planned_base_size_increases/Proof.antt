@@ -1,4 +1,4 @@
--- `flush_planned_base_size_increases`: the refusal of its track, or the track flushed. Assumes nothing.
+-- `flush_planned_base_size_increases`: the refusal of its track, or the track flushed, the inputs being met. Assumes nothing.
 use mathlib.Core.Path.{_∙_, ap, subst}
 use mathlib.Core.List.{List}
 use lib.Ieee.{Float}

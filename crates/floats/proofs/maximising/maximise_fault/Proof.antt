@@ -1,4 +1,4 @@
--- `maximise_fault`: the lengths, then the numbers from the fit-content limits to the space. Assumes nothing.
+-- `maximise_fault`: the lengths, then the numbers from the fit-content limits to the space; where it finds nothing, the inputs are met. Assumes nothing.
 use mathlib.Core.Path.{sym, _∙_}
 use Prim.Native.Nat.{_+_, _*_}
 use native.Mathlib.Omega.{arith}

@@ -1,4 +1,4 @@
--- `maximise_tracks`: the refusal, or the tracks maximised. Assumes nothing.
+-- `maximise_tracks`: the refusal, or the tracks maximised, which are those with Rust's minimum. Assumes nothing.
 use mathlib.Core.Path.{_∙_, ap}
 use mathlib.Core.List.{[], _∷_, _++_}
 use Prim.Native.Nat.{_+_}

@@ -1,4 +1,4 @@
--- `find_size_of_fr`: the refusal, or the size. Assumes nothing.
+-- `find_size_of_fr`: the refusal, or the size, which is the one with Rust's maximum. Assumes nothing.
 use mathlib.Core.Path.{_∙_, ap}
 use mathlib.Core.List.{[], _∷_, _++_}
 use Prim.Native.Nat.{_+_}

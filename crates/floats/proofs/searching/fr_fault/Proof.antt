@@ -1,4 +1,4 @@
--- `fr_fault`: the lengths, then the numbers from the factors to the space. Assumes nothing.
+-- `fr_fault`: the lengths, then the numbers from the factors to the space; where it finds nothing, the inputs are met. Assumes nothing.
 use mathlib.Core.Path.{sym, _∙_}
 use Prim.Native.Nat.{_+_, _*_}
 use native.Mathlib.Omega.{arith}

@@ -1,4 +1,4 @@
--- `stretch_auto_tracks`: the refusal, or the tracks stretched. Assumes nothing.
+-- `stretch_auto_tracks`: the refusal, or the tracks stretched, the inputs being met. Assumes nothing.
 use mathlib.Core.Path.{_∙_, ap}
 use mathlib.Core.List.{[], _∷_}
 use lib.ListN.{length}

@@ -1,4 +1,4 @@
--- `stretch_fault`: the lengths, then the numbers from the tracks to the minimum size. Assumes nothing.
+-- `stretch_fault`: the lengths, then the numbers from the tracks to the minimum size; where it finds nothing, the inputs are met. Assumes nothing.
 use mathlib.Core.Path.{sym, _∙_}
 use native.Mathlib.Omega.{arith}
 use borrow.Author.Tests.{not-true, not-false}

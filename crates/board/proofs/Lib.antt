@@ -8,3 +8,5 @@ pub mod ReadBoard
 pub mod Unique
 -- no board tells more than 256 tracks
 pub mod Tracks
+-- what decides the answer is at the front of the bytes
+pub mod Front

@@ -1,6 +1,6 @@
 -- Where a sheet ends: at the length of its bytes, whatever follows them; found from the three counts, with no look behind the
 -- last of them. Assumes nothing.
-use mathlib.Core.Path.{_≡_, sym, ap, ap₂, _∙_}
+use mathlib.Core.Path.{_≡_, sym, ap, _∙_}
 use Prim.Native.Nat.{ℕ, _+_, _*_, _≤_, _<_}
 use native.Mathlib.Omega.{arith}
 use mathlib.Core.List.{List, _++_}
@@ -12,6 +12,7 @@ use Rattle.rounds.specs.Rule.{mostTracks}
 use Rattle.sheet.specs.Rule.{byteAt, twoAt, fine, fault, first, unless, recordSize, trackRecord, itemRecord, mostItems, tracksAt, itemsAt, sheetEnd, sheetFault, EndTold, endAt, endAs, endCall}
 use Rattle.sheet.proofs.Looks.{whole-fine}
 use Rattle.sheet.proofs.Accepted.{accepted}
+use Rattle.sheet.proofs.Same.{two-same, items-at-same}
 
 pub accepted-ends : (bytes : List ℕ) → sheetFault bytes ≡ fine → sheetEnd bytes ≡ length bytes
 accepted-ends bytes e = let a = accepted bytes e in omega (arith, a .items .ends, a .noneOver)
@@ -32,17 +33,12 @@ end-by-counts bytes h = rw (whole-fine bytes 2 (omega arith), whole-fine bytes 1
 -- ---- bytes that agree up to the last count have one end
 
 module _ (b c : List ℕ) (whole : itemsAt b + 2 ≤ length b) (enough : itemsAt b + 2 ≤ length c) (same : (i : ℕ) → i < itemsAt b + 2 → byteAt b i ≡ byteAt c i) where
-  two-same : (p : ℕ) → p + 1 < itemsAt b + 2 → twoAt b p ≡ twoAt c p
-  two-same p h = ap₂ (λ (x y : ℕ). x + 256 * y) (same p (omega arith)) (same (p + 1) h)
-
-  items-at-same : itemsAt b ≡ itemsAt c
-  items-at-same = ap (λ (n : ℕ). tracksAt + 2 + n * recordSize trackRecord) (two-same tracksAt (omega arith))
-
   end-same : endCall b ≡ endCall c
   end-same =
-      let i = items-at-same in
+      let upTo = itemsAt b + 2 in
+      let i = items-at-same b c upTo same (omega arith) in
       let counts : byCounts (twoAt b 0) (twoAt b tracksAt) (twoAt b (itemsAt b)) ≡ byCounts (twoAt c 0) (twoAt c tracksAt) (twoAt c (itemsAt c)) =
-      cc (two-same 0 (omega arith), two-same tracksAt (omega arith), two-same (itemsAt b) (omega arith), ap (twoAt c) i) in
+      cc (two-same b c upTo same 0 (omega arith), two-same b c upTo same tracksAt (omega arith), two-same b c upTo same (itemsAt b) (omega arith), ap (twoAt c) i) in
       end-by-counts b whole ∙ counts ∙ sym (end-by-counts c (rw (← i) enough))
 
 end-alone : (bytes : List ℕ) → sheetFault bytes ≡ fine → endCall bytes ≡ endAt (length bytes)

@@ -21,6 +21,9 @@ pub mod RoundTrip
 pub mod ReadCall
 -- the rule at work on one sheet
 pub mod Example
+-- bytes that agree so far, and that what decides a sheet's answer is at its front
+pub mod Same
+pub mod Front
 -- where a sheet ends, from its counts alone
 pub mod Ends
 -- an answer is the only one that tells what it tells

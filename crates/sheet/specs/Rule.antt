@@ -92,6 +92,12 @@ sheetFault bytes =
     (first (sectionFault itemSection bytes (itemsAt bytes))
     (overFault bytes)))
 
+-- ---- The longest sheet
+
+-- the bytes of a sheet with all the tracks and items that are allowed
+abbrev pub longest : ℕ
+longest = tracksAt + 2 + mostTracks * recordSize trackRecord + 2 + mostItems * recordSize itemRecord
+
 -- ---- The calls
 
 -- 6: fewer places are lent than are wanted.

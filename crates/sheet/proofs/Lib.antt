@@ -17,8 +17,9 @@ pub mod WriteCall
 -- what a sheet without fault has, and that it and its bytes give each other back
 pub mod Accepted
 pub mod RoundTrip
--- the calls that read, case by case
+-- the calls that read, case by case; and what an answer of a call says
 pub mod ReadCall
+pub mod Told
 -- the rule at work on one sheet
 pub mod Example
 -- bytes that agree so far, and that what decides a sheet's answer is at its front

@@ -5,10 +5,9 @@ use mathlib.Core.Logic.{_↔_}
 use Prim.Native.Nat.{ℕ, _+_, _≤_}
 use mathlib.Core.List.{List, [], _∷_}
 use lib.ListN.{length, drop, drop-of-length-le}
-use borrow.Author.Tests.{le-leb}
 use Rattle.rows.specs.Shapes.{AreBytes}
 use Rattle.rows.proofs.Stands.{Stands, stands-whole, stands-join, width, width-rowAt, width-rowsAt}
-use Rattle.sheet.specs.Rule.{Row, recordSize, spaceRecord, trackRecord, itemRecord, spaceSection, trackSection, itemSection, twoAt, rowAt, rowsAt, tracksAt, itemsAt, Sheet, sheetAt, sheetBytes, Fault, fine, fault, sheetFault, readFault, readAs, readRefused, readSheet, readCall, writeFault, writeAs, writeRefused, writeOutcome, sheetWritten, onto, writeCall}
+use Rattle.sheet.specs.Rule.{Row, recordSize, spaceRecord, trackRecord, itemRecord, spaceSection, trackSection, itemSection, twoAt, rowAt, rowsAt, tracksAt, itemsAt, Sheet, sheetAt, sheetBytes, Fault, fine, fault, first, sheetFault, enough, readFault, readAs, readRefused, readCall, writeFault, writeAs, writeRefused, writeCall}
 use Rattle.sheet.specs.Content.{sectionBytes}
 use Rattle.sheet.specs.RoundTrip.{Shaped}
 use Rattle.sheet.proofs.Content.{sections-of-sheet, written-fault, track-count, item-count, shaped-reads-back}
@@ -41,18 +40,16 @@ accepted-writes-back bytes small e =
 pub written-reads-back : (sheet : Sheet) → Shaped sheet → sheetAt (sheetBytes sheet) ≡ sheet
 written-reads-back = shaped-reads-back
 
--- ---- the same of the calls
+-- ---- the same of the calls: 6 is all that can refuse
 
-pub write-of-read : (bytes lent : List ℕ) → AreBytes bytes → sheetFault bytes ≡ fine → length bytes ≤ length lent
-    → writeCall (sheetAt bytes) lent ≡ writeOutcome (sheetWritten (length bytes)) (onto bytes lent)
+pub write-of-read : (bytes lent : List ℕ) → AreBytes bytes → sheetFault bytes ≡ fine → writeCall (sheetAt bytes) lent ≡ writeAs (enough (length bytes) (length lent)) bytes lent
 unfolding writeCall
-write-of-read bytes lent small e h = rw (accepted-writes-back bytes small e, e, le-leb (length bytes) (length lent) h)
+write-of-read bytes lent small e = rw (accepted-writes-back bytes small e, e)
 
 pub read-of-written : (sheet : Sheet) (tracks items : List Row) → Shaped sheet → sheetFault (sheetBytes sheet) ≡ fine
-    → length (sheet .tracks) ≤ length tracks → length (sheet .items) ≤ length items → readCall (sheetBytes sheet) tracks items ≡ readSheet sheet tracks items
+    → readCall (sheetBytes sheet) tracks items ≡ readAs (first (enough (length (sheet .tracks)) (length tracks)) (enough (length (sheet .items)) (length items))) sheet tracks items
 unfolding readCall
-read-of-written sheet tracks items shaped e t i =
-    rw (e, item-count sheet shaped, track-count sheet shaped, le-leb _ _ t, le-leb _ _ i, written-reads-back sheet shaped)
+read-of-written sheet tracks items shaped e = rw (e, item-count sheet shaped, track-count sheet shaped, written-reads-back sheet shaped)
 
 -- ---- a call refuses exactly where there is a fault
 

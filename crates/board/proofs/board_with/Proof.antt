@@ -3,7 +3,7 @@ use borrow.Author.Needs.{needs}
 use mathlib.Core.Path.{sym}
 use lib.Seq.{length-take-le}
 use Rattle.sheet.proofs.read.Reads as read-reads
-use Rattle.board.proofs.ReadBoard.{SheetRead, sheet-refused, sheet-refused-own, sheet-read, board-of-sheet}
+use Rattle.board.proofs.ReadBoard.{BoardRead, sheet-refused, sheet-refused-own, board-read, board-of-sheet}
 use Rattle.board.proofs.size_sheet.Reads as size-sheet-reads
 use Rattle.board.proofs.board_with.Statement.{statement}
 use Rattle.board.proofs.board_with.Tie as tie
@@ -21,25 +21,25 @@ enum-known-read-2 c = search needs
 
 -- what holds in the arm of a sheet that was read
 read-at : (c : lts.After-known-told2 (read-reads.Asked, read-reads.Learnt, size-sheet-reads.Asked, size-sheet-reads.Learnt) reads.Pre reads.Post)
-    → SheetRead (c .before .before .before .before .before .before .before .before .before .args .bytes .now) (c .before .before .before .before .before .before .before .before .before .args .tracks .now) (c .before .before .before .before .before .before .before .before .before .args .items .now) (c .before .before .before .before .before .before .before .before .before .pre) (c .before .before .before .before .before .read .last .1 .0) (c .before .before .before .before .before .read .last .1 .1 .0) (c .before .read3 .given .0 .0) (c .before .read3 .given .0 .1 .0) (c .before .read3 .given .0 .1 .1 .0)
+    → BoardRead (c .before .before .before .before .before .before .before .before .before .args .bytes .now) (c .before .before .before .before .before .before .before .before .before .args .tracks .now) (c .before .before .before .before .before .before .before .before .before .args .items .now) (c .before .before .before .before .before .before .before .before .before .pre) (c .before .before .before .before .before .read .last .1 .0) (c .before .before .before .before .before .read .last .1 .1 .0) (c .before .read3 .given .0 .0) (c .before .read3 .given .0 .1 .0) (c .before .read3 .given .0 .1 .1 .0)
 read-at c =
     let a = c .before .before .before .before .before .before .before .before .before .args in
     let pre = c .before .before .before .before .before .before .before .before .before .pre in
     let read = c .before .before .before .before .before .read in
     let told = c .before .read3 .given in
-    sheet-read (a .bytes .now) (a .tracks .now) (a .items .now) pre (read .last .1 .0) (read .last .1 .1 .0) (read .result) (told .0 .0) (told .0 .1 .0) (told .0 .1 .1 .0) (told .1) (read .ensures)
+    board-read (a .bytes .now) (a .tracks .now) (a .items .now) pre (read .last .1 .0) (read .last .1 .1 .0) (read .result) (told .0 .0) (told .0 .1 .0) (told .0 .1 .1 .0) (told .1) (read .ensures)
 
 slice-reshare-prefix-size-sheet : tie.Need-slice-reshare-prefix-size-sheet
-slice-reshare-prefix-size-sheet c = read-at c .trackRows
+slice-reshare-prefix-size-sheet c = read-at c .rows .trackRows
 
 slice-aggregate-size-sheet : tie.Need-slice-aggregate-size-sheet
-slice-aggregate-size-sheet c = sym (length-take-le _ _ (read-at (c .before) .trackRows))
+slice-aggregate-size-sheet c = sym (length-take-le _ _ (read-at (c .before) .rows .trackRows))
 
 slice-reshare-prefix-size-sheet-2 : tie.Need-slice-reshare-prefix-size-sheet-2
-slice-reshare-prefix-size-sheet-2 c = read-at (c .before) .itemRows
+slice-reshare-prefix-size-sheet-2 c = read-at (c .before) .rows .itemRows
 
 slice-aggregate-size-sheet-2 : tie.Need-slice-aggregate-size-sheet-2
-slice-aggregate-size-sheet-2 c = sym (length-take-le _ _ (read-at (c .before .before) .itemRows))
+slice-aggregate-size-sheet-2 c = sym (length-take-le _ _ (read-at (c .before .before) .rows .itemRows))
 
 size-sheet-requires : tie.Need-size-sheet-requires
 size-sheet-requires c κs = let ok = read-at (c .before .before .before) in (ok .fewTracks, ok .fewItems)

@@ -1,7 +1,7 @@
--- `print::magnitude` meets its contract, from the laws of an i32 worked out as an i64. Assumes nothing.
-use Rattle.reader.proofs.Magnitude.{cast-fits, sub-fits, neg-cast-fits, natAbs-negOf, wide-cast-fits, natAbs-wideOf}
-use Rattle.reader.proofs.print.magnitude.Statement.{statement}
-use Rattle.reader.proofs.print.magnitude.Tie as tie
+-- `put::magnitude` meets its contract, from the laws of an i32 worked out as an i64. Assumes nothing.
+use Rattle.printed.proofs.Magnitude.{cast-fits, sub-fits, neg-cast-fits, natAbs-negOf, wide-cast-fits, natAbs-wideOf}
+use Rattle.printed.proofs.put.magnitude.Statement.{statement}
+use Rattle.printed.proofs.put.magnitude.Tie as tie
 
 cast-wide : tie.Need-cast-wide
 cast-wide c = cast-fits _ (c .fits .n)

@@ -1,0 +1,12 @@
+-- The laws of the text. A function's own proof stands in the folder of its name.
+
+-- pieces one behind another
+pub mod Joined
+-- a number's digits, and an i32 without its sign
+pub mod Decimal
+pub mod Magnitude
+pub mod Signed
+-- a turn of each loop
+pub mod Turns
+-- the call as a whole
+pub mod Call

@@ -1,0 +1,101 @@
+-- What the reader prints: an answer as lines of text, in ASCII. This page follows the build paper's section 'What the reader prints' in its
+-- words and order, then the call that makes the text, and a name as it stands in a message. It assumes nothing of the code and it computes.
+use Prim.Native.Nat.{ℕ, zero, suc, _+_, _*_, _/_, _%_}
+use Prim.Native.String.{String}
+use Prim.Native.String as Text
+use Prim.Native.Char.{code}
+use mathlib.Core.Bool.{Bool, cond, not, _&&_, _||_}
+use mathlib.Core.List.{List, [], _∷_, _++_, flatMap}
+use lib.Dec.{ltb, leb, eqb}
+use lib.ListN.{length, take, drop, getD, replicate}
+use lib.IntN.{ℤ, pos, negsuc}
+use Rattle.kinds.specs.Kinds.{Row}
+use Rattle.rounds.specs.Rule.{mostTracks}
+use Rattle.sheet.specs.Rule.{onto}
+use Rattle.lines.specs.Rule.{FreeTold, none, dots}
+use Rattle.board.specs.Rule.{BoardTold, board, refused, BoardOutcome, boardCall}
+
+-- ---- Words and numbers
+
+-- the bytes of a word
+abbrev pub word : String → List ℕ
+word Text.[] = []
+word (Text._∷_ c w) = code c ∷ word w
+
+abbrev pub digit : ℕ → ℕ
+digit d = 48 + d
+
+-- decimal digits, the most significant first; a number has no more of them than it counts, so that counting down to 0 ends nothing early
+unfoldable pub decimalFrom : ℕ → ℕ → List ℕ
+decimalFrom zero n = digit n ∷ []
+decimalFrom (suc most) n = cond (ltb n 10) (digit n ∷ []) (decimalFrom most (n / 10) ++ (digit (n % 10) ∷ []))
+
+abbrev pub decimal : ℕ → List ℕ
+decimal n = decimalFrom n n
+
+-- the sign stands before a number below 0
+abbrev pub signed : ℤ → List ℕ
+signed (pos n) = decimal n
+signed (negsuc n) = word "-" ++ decimal (suc n)
+
+-- ---- An answer
+
+-- the signed difference, or `none` if not definite
+abbrev pub freeText : FreeTold → List ℕ
+freeText none = word "none"
+freeText (dots z) = signed z
+
+-- the first line: tracks, free space, rounds
+abbrev pub boardLine : ℕ → FreeTold → ℕ → List ℕ
+boardLine tracks free rounds =
+    word "tracks " ++ (decimal tracks ++ (word " free " ++ (freeText free ++ (word " rounds " ++ (decimal rounds ++ word "\n")))))
+
+-- a line for each track: its number, its base and its limit
+abbrev pub trackLine : ℕ → Row → List ℕ
+trackLine t place = decimal t ++ (word " " ++ (decimal (getD place 0 0) ++ (word " " ++ (decimal (getD place 1 0) ++ word "\n"))))
+
+-- those from track t on
+unfoldable pub trackLines : ℕ → List Row → List ℕ
+trackLines t [] = []
+trackLines t (place ∷ places) = trackLine t place ++ trackLines (t + 1) places
+
+-- a refusal prints one line
+abbrev pub refusalLine : ℕ → ℕ → List ℕ
+refusalLine number place = word "refused " ++ (decimal number ++ (word " at " ++ (decimal place ++ word "\n")))
+
+-- what is printed of an answer; the tracks' places are the first ones
+abbrev pub answerText : BoardTold → List Row → List ℕ
+answerText (board tracks free rounds) places = boardLine tracks free rounds ++ trackLines 0 (take tracks places)
+answerText (refused number place) places = refusalLine number place
+
+abbrev pub outcomeText : BoardOutcome → List ℕ
+outcomeText o = answerText (o .told) (o .places)
+
+-- ---- The text of a sheet: its board is sized in places of the program's own, as many as a board has tracks at most
+
+abbrev pub ownPlaces : List Row
+ownPlaces = replicate mostTracks (0 ∷ 0 ∷ [])
+
+abbrev pub sheetText : List ℕ → List ℕ
+sheetText bytes = outcomeText (boardCall bytes ownPlaces)
+
+-- What the call leaves: the text's length, or that too few bytes were lent; and what stands in the lent bytes after it.
+pub data PrintTold : Type 0 where
+  printed : (length : ℕ) → PrintTold
+  tooShort : PrintTold
+
+pub record PrintOutcome : Type 0 where
+  pub told : PrintTold
+  pub bytes : List ℕ
+
+abbrev pub printOutcome : PrintTold → List ℕ → PrintOutcome
+printOutcome told bytes = record { told = told; bytes = bytes }
+
+-- as many bytes as any text takes: 83 for the first line, and 63 for each track
+abbrev pub mostText : ℕ
+mostText = 83 + 63 * mostTracks
+
+unfoldable pub printCall : List ℕ → List ℕ → PrintOutcome
+printCall bytes lent =
+    cond (ltb (length lent) mostText) (printOutcome tooShort lent)
+    (printOutcome (printed (length (sheetText bytes))) (onto (sheetText bytes) lent))

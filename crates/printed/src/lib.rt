@@ -1,0 +1,35 @@
+// What the reader prints, made in lent bytes before any of it is written out (specs/Rule.antt is the rule, docs/PROMISES.md the promise in
+// words).
+mod answer;
+mod put;
+
+use answer::put_answer;
+use board::board;
+ghost use mathlib.Core.Path.{_≡_};
+ghost use Rattle.printed.specs.Rule.{printCall};
+ghost use Rattle.printed.specs.Answer.{printLeaves};
+
+pub enum PrintAnswer {
+    // The text is the first so many bytes.
+    Printed { length: usize },
+    // Fewer bytes were lent than a text may take; they keep what they hold.
+    TooShort,
+}
+
+// As many bytes as any text takes, of a board of 256 tracks too.
+pub const MOST_TEXT: usize = 16_211;
+
+const MOST_TRACKS: usize = 256;
+
+// Sizes a sheet and puts what is printed of it into lent bytes; those behind the text keep what they hold.
+pub fn print_sheet(bytes: &[u8], into: &mut [u8]) -> PrintAnswer
+    ensures { λ r. ⌜ printLeaves r (now (into .exit)) ≡ printCall (now (bytes .entry)) (now (into .entry)) ⌝ }
+{
+    if into.len() < MOST_TEXT {
+        return PrintAnswer::TooShort;
+    }
+    let mut places = [[0u32; 2]; MOST_TRACKS];
+    let answer = board(bytes, &mut places);
+    let length = put_answer(answer, &places, into);
+    PrintAnswer::Printed { length }
+}

@@ -13,13 +13,13 @@ use Rattle.board.specs.Answer.{boardTold, boardLeaves}
 use Rattle.board.specs.declared.BoardAnswer.{BoardAnswer}
 use Rattle.board.specs.declared.BoardAnswer.the-variants as answer
 use Rattle.board.proofs.Tracks.{tracks-few}
-use Rattle.printed.specs.Rule.{answerText, outcomeText, ownPlaces, sheetText, tooShort, printed, PrintOutcome, printOutcome, mostText, printCall}
+use Rattle.printed.specs.Rule.{answerText, outcomeText, ownPlaces, sheetText, noRoom, printed, PrintOutcome, printOutcome, mostText, printCall}
 use Rattle.printed.specs.Answer.{TracksWithin}
 use Rattle.printed.specs.Putting.{Putting}
 
-pub call-too-short : (bytes lent : List ℕ) → length lent < mostText → printOutcome tooShort lent ≡ printCall bytes lent
+pub call-no-room : (bytes lent : List ℕ) → length lent < mostText → printOutcome noRoom lent ≡ printCall bytes lent
 unfolding printCall
-call-too-short bytes lent h = rw (lt-ltb (length lent) mostText h)
+call-no-room bytes lent h = rw (lt-ltb (length lent) mostText h)
 
 module _ (bytes : List ℕ) (a : BoardAnswer) (left : List Row) (kept : boardLeaves a left ≡ boardCall bytes ownPlaces) where
   -- the tracks of a board have places

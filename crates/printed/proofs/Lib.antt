@@ -6,7 +6,11 @@ pub mod Joined
 pub mod Decimal
 pub mod Magnitude
 pub mod Signed
+-- a name in a message
+pub mod Shown
+pub mod Visible
 -- a turn of each loop
 pub mod Turns
 -- the call as a whole
 pub mod Call
+pub mod MessageCall

@@ -4,13 +4,13 @@ use Prim.Native.Nat.{ℕ, _≤_}
 use lib.ListN.{length}
 use Rattle.kinds.specs.Kinds.{Row}
 use Rattle.board.specs.Rule.{BoardTold, board, refused}
-use Rattle.printed.specs.Rule.{PrintTold, printed, tooShort, PrintOutcome, printOutcome}
+use Rattle.printed.specs.Rule.{PrintTold, printed, noRoom, PrintOutcome, printOutcome}
 use Rattle.printed.specs.declared.PrintAnswer.{PrintAnswer}
-use Rattle.printed.specs.declared.PrintAnswer.the-variants.{Printed, TooShort}
+use Rattle.printed.specs.declared.PrintAnswer.the-variants.{Printed, NoRoom}
 
 abbrev pub printTold : PrintAnswer → PrintTold
 printTold (Printed length) = printed length
-printTold TooShort = tooShort
+printTold NoRoom = noRoom
 
 abbrev pub printLeaves : PrintAnswer → List ℕ → PrintOutcome
 printLeaves answer bytes = printOutcome (printTold answer) bytes

@@ -79,10 +79,10 @@ ownPlaces = replicate mostTracks (0 ∷ 0 ∷ [])
 abbrev pub sheetText : List ℕ → List ℕ
 sheetText bytes = outcomeText (boardCall bytes ownPlaces)
 
--- What the call leaves: the text's length, or that too few bytes were lent; and what stands in the lent bytes after it.
+-- What a call leaves: the text's length, or that there is no room for it; and what stands in the lent bytes after it.
 pub data PrintTold : Type 0 where
   printed : (length : ℕ) → PrintTold
-  tooShort : PrintTold
+  noRoom : PrintTold
 
 pub record PrintOutcome : Type 0 where
   pub told : PrintTold
@@ -97,5 +97,40 @@ mostText = 83 + 63 * mostTracks
 
 unfoldable pub printCall : List ℕ → List ℕ → PrintOutcome
 printCall bytes lent =
-    cond (ltb (length lent) mostText) (printOutcome tooShort lent)
+    cond (ltb (length lent) mostText) (printOutcome noRoom lent)
     (printOutcome (printed (length (sheetText bytes))) (onto (sheetText bytes) lent))
+
+-- ---- A message of the reader: one line, whatever the name in it
+
+-- a byte of a name that stands as it is: no control character, no quote and no backslash
+abbrev pub isPlain : ℕ → Bool
+isPlain b = leb 32 b && (not (eqb b 127) && (not (eqb b 39) && not (eqb b 92)))
+
+abbrev pub hexDigit : ℕ → ℕ
+hexDigit d = cond (ltb d 10) (48 + d) (87 + d)
+
+-- any other is shown by two hex digits
+abbrev pub shown : ℕ → List ℕ
+shown b = cond (isPlain b) (b ∷ []) (word "\\x" ++ (hexDigit (b / 16) ∷ hexDigit (b % 16) ∷ []))
+
+abbrev pub quoted : List ℕ → List ℕ
+quoted name = word "'" ++ (flatMap shown name ++ word "'")
+
+abbrev pub messageText : List ℕ → List ℕ → List ℕ
+messageText name words = word "reader: " ++ (quoted name ++ words)
+
+-- a name of 4,096 bytes and words of 128 at most, and room for any such message
+abbrev pub mostName : ℕ
+mostName = 4096
+
+abbrev pub mostWords : ℕ
+mostWords = 128
+
+abbrev pub mostMessage : ℕ
+mostMessage = 10 + 4 * mostName + mostWords
+
+unfoldable pub messageCall : List ℕ → List ℕ → List ℕ → PrintOutcome
+messageCall name words lent =
+    cond (leb (length name) mostName && (leb (length words) mostWords && leb mostMessage (length lent)))
+    (printOutcome (printed (length (messageText name words))) (onto (messageText name words) lent))
+    (printOutcome noRoom lent)

@@ -1,10 +1,13 @@
 // What the reader prints, made in lent bytes before any of it is written out (specs/Rule.antt is the rule, docs/PROMISES.md the promise in
 // words).
 mod answer;
+mod message;
 mod put;
 
 use answer::put_answer;
 use board::board;
+pub use message::MOST_MESSAGE;
+pub use message::print_message;
 ghost use mathlib.Core.Path.{_≡_};
 ghost use Rattle.printed.specs.Rule.{printCall};
 ghost use Rattle.printed.specs.Answer.{printLeaves};
@@ -12,8 +15,8 @@ ghost use Rattle.printed.specs.Answer.{printLeaves};
 pub enum PrintAnswer {
     // The text is the first so many bytes.
     Printed { length: usize },
-    // Fewer bytes were lent than a text may take; they keep what they hold.
-    TooShort,
+    // Fewer bytes were lent than such a text may take; they keep what they hold.
+    NoRoom,
 }
 
 // As many bytes as any text takes, of a board of 256 tracks too.
@@ -26,7 +29,7 @@ pub fn print_sheet(bytes: &[u8], into: &mut [u8]) -> PrintAnswer
     ensures { λ r. ⌜ printLeaves r (now (into .exit)) ≡ printCall (now (bytes .entry)) (now (into .entry)) ⌝ }
 {
     if into.len() < MOST_TEXT {
-        return PrintAnswer::TooShort;
+        return PrintAnswer::NoRoom;
     }
     let mut places = [[0u32; 2]; MOST_TRACKS];
     let answer = board(bytes, &mut places);

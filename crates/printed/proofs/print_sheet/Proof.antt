@@ -1,7 +1,7 @@
 -- `print_sheet`: too few bytes, or the text of the board. Assumes nothing.
 use native.Mathlib.Omega.{arith}
 use borrow.Author.Needs.{needs}
-use Rattle.printed.proofs.Call.{tracks-within, call-too-short, call-printed}
+use Rattle.printed.proofs.Call.{tracks-within, call-no-room, call-printed}
 use Rattle.printed.proofs.print_sheet.Statement.{statement}
 use Rattle.printed.proofs.print_sheet.Tie as tie
 use Rattle.printed.proofs.print_sheet.Reads as reads
@@ -11,7 +11,7 @@ use Rattle.printed.proofs.answer.put_answer.Reads as put-answer-reads
 
 -- src/lib.rt:29:9
 returns : tie.Need-returns
-returns c = call-too-short (c .before .before .before .args .bytes .now) (c .before .before .before .args .into .now) (c .if1 .taken)
+returns c = call-no-room (c .before .before .before .args .bytes .now) (c .before .before .before .args .into .now) (c .if1 .taken)
 
 -- src/lib.rt:32:31
 slice-aggregate-board : tie.Need-slice-aggregate-board

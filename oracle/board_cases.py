@@ -2,7 +2,7 @@
 
     python3 oracle/board_cases.py > crates/board_vectors/data/cases.txt
 
-and, with the word `examples`, the sheets of examples/ with what the reader prints of each, one of them as the reader's own run:
+and, with the word `examples`, the sheets of examples/ with what the reader prints of each, and the words, sheets and text of the reader's own run:
 
     python3 oracle/board_cases.py examples
 
@@ -27,7 +27,7 @@ import sys
 
 sys.dont_write_bytecode = True
 from board_model import (
-    AUTO, BOARD, DEFINITE, FIT, FIXED, FR, LARGEST, LONGEST, MAX, MIN, MOST_TRACKS, REFUSAL, SPACE_LIMIT, UNDER_MAX, UNDER_MIN,
+    AUTO, BOARD, DEFINITE, FIT, FIXED, FR, LARGEST, LONGEST, MAX, MIN, MOST_ITEMS, MOST_TRACKS, REFUSAL, SPACE_LIMIT, UNDER_MAX, UNDER_MIN,
     Item, Track, board_of, byte_faults, fill, printed, record_faults, sheet_in,
 )
 from case_text import runs
@@ -671,20 +671,39 @@ def examples():
     return {'w12': W12, 'tariff': sheet(columns, fares, definite(320), 320), 'tariff_narrow': sheet(columns, fares, definite(150), 150), 'lacking': lacking}
 
 
+def longest():
+    """A sheet with all the tracks and items that are allowed."""
+    tracks = [(auto, max_content if t % 2 == 0 else auto) for t in range(MOST_TRACKS)]
+    items = []
+    for i in range(MOST_ITEMS):
+        start, span = i % MOST_TRACKS, 1 + i // MOST_TRACKS
+        width = 37 * i % 200
+        items.append(item(start, span if start + span <= MOST_TRACKS else 1, width, width + 5, width + 20))
+    return sheet(tracks, items, definite(65_535), 65_535)
+
+
 def write_examples(root):
     def write(path, data):
         with open(os.path.join(root, path), 'wb') as out:
             out.write(data)
 
-    for name, data in examples().items():
+    def lines(data):
         told, after, _ = board_of(data, lent_places(MOST_TRACKS))
-        lines = printed(told, after).encode()
+        return printed(told, after).encode()
+
+    for name, data in examples().items():
         write(f'examples/{name}.sheet', data)
-        write(f'examples/{name}.txt', lines)
-        if name == 'tariff_narrow':
-            write(f'crates/reader/data/{name}.sheet', data)
-            write('crates/reader/args', f'{name}.sheet\n'.encode())
-            write('crates/reader/stdout', lines)
+        write(f'examples/{name}.txt', lines(data))
+
+    # The reader's own run: every example, W12 on its standard input too, the longest sheet, and that with a byte more.
+    run = dict(examples(), longest=longest(), longest_and_one=longest() + bytes(1))
+    assert len(run['longest']) == LONGEST
+    words = ['tariff.sheet', 'tariff_narrow.sheet', 'lacking.sheet', '-', 'longest.sheet', 'longest_and_one.sheet', '--', 'w12.sheet']
+    for name, data in run.items():
+        write(f'crates/reader/data/{name}.sheet', data)
+    write('crates/reader/stdin', W12)
+    write('crates/reader/args', ''.join(f'{word}\n' for word in words).encode())
+    write('crates/reader/stdout', b''.join(lines(run['w12' if word == '-' else word[: -len('.sheet')]]) for word in words if word != '--'))
 
 
 def main():

@@ -14,3 +14,5 @@ pub mod Turns
 -- the call as a whole
 pub mod Call
 pub mod MessageCall
+pub mod Front
+pub mod Within

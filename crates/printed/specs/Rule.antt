@@ -129,8 +129,11 @@ mostWords = 128
 abbrev pub mostMessage : ℕ
 mostMessage = 10 + 4 * mostName + mostWords
 
+abbrev pub fitsMessage : ℕ → ℕ → ℕ → Bool
+fitsMessage name words lent = leb name mostName && (leb words mostWords && leb mostMessage lent)
+
 unfoldable pub messageCall : List ℕ → List ℕ → List ℕ → PrintOutcome
 messageCall name words lent =
-    cond (leb (length name) mostName && (leb (length words) mostWords && leb mostMessage (length lent)))
+    cond (fitsMessage (length name) (length words) (length lent))
     (printOutcome (printed (length (messageText name words))) (onto (messageText name words) lent))
     (printOutcome noRoom lent)

@@ -1,1 +1,2 @@
-pub mod Magnitude
+-- The laws of the command line's words.
+pub mod Dashes

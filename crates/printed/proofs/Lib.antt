@@ -16,3 +16,4 @@ pub mod Call
 pub mod MessageCall
 pub mod Front
 pub mod Within
+pub mod Unique

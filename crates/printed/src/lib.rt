@@ -6,6 +6,7 @@ mod put;
 
 use answer::put_answer;
 use board::board;
+use kinds::Track;
 pub use message::MOST_MESSAGE;
 pub use message::print_message;
 ghost use mathlib.Core.Path.{_≡_};
@@ -22,8 +23,6 @@ pub enum PrintAnswer {
 // As many bytes as any text takes, of a board of 256 tracks too.
 pub const MOST_TEXT: usize = 16_211;
 
-const MOST_TRACKS: usize = 256;
-
 // Sizes a sheet and puts what is printed of it into lent bytes; those behind the text keep what they hold.
 pub fn print_sheet(bytes: &[u8], into: &mut [u8]) -> PrintAnswer
     ensures { λ r. ⌜ printLeaves r (now (into .exit)) ≡ printCall (now (bytes .entry)) (now (into .entry)) ⌝ }
@@ -31,7 +30,7 @@ pub fn print_sheet(bytes: &[u8], into: &mut [u8]) -> PrintAnswer
     if into.len() < MOST_TEXT {
         return PrintAnswer::NoRoom;
     }
-    let mut places = [[0u32; 2]; MOST_TRACKS];
+    let mut places = [[0u32; 2]; Track::MOST];
     let answer = board(bytes, &mut places);
     let length = put_answer(answer, &places, into);
     PrintAnswer::Printed { length }

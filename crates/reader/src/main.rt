@@ -101,6 +101,7 @@ fn answer_sheet(name: &[u8], is_past: bool) -> Step {
     }
 }
 
+// Help and options were looked at before: what still begins with a dash is a name.
 fn answer_word(word: &[u8], is_past: bool) -> Step {
     if is_past {
         return answer_sheet(word, is_past);
@@ -146,8 +147,26 @@ fn answer_all(count: usize) {
     }
 }
 
-// Whether the words are options and names that the reader takes; where they are not, or help is asked for, this has said so.
+// Whether a word is a name or an option that the reader takes; where it is not, or help is asked for, this has said so.
+fn is_taken(word: &[u8], is_past: bool) -> bool {
+    if is_past {
+        return true;
+    }
+    let kind = words::word_of(word);
+    if kind.is_help() {
+        print_help();
+        return false;
+    }
+    if kind.is_option() {
+        say(word, b" is no option; --help says what is\n");
+        return false;
+    }
+    true
+}
+
+// The words are looked at before any sheet is read.
 fn are_taken(count: usize) -> bool {
+    let mut is_past = false;
     let mut i = 1;
     while i < count {
         let mut word = io::buffer();
@@ -159,18 +178,10 @@ fn are_taken(count: usize) -> bool {
             );
             return false;
         }
-        let kind = words::word_of(&word[..length]);
-        if kind.is_past() {
-            return true;
-        }
-        if kind.is_help() {
-            print_help();
+        if !is_taken(&word[..length], is_past) {
             return false;
         }
-        if kind.is_option() {
-            say(&word[..length], b" is no option; --help says what is\n");
-            return false;
-        }
+        is_past = is_past | words::word_of(&word[..length]).is_past();
         i += 1;
     }
     true

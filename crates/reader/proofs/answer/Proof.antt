@@ -5,44 +5,31 @@ use Rattle.printed.proofs.Within.{sheet-within}
 use borrow.Author.Needs.{needs}
 use Rattle.reader.proofs.answer.Statement.{statement}
 use Rattle.reader.proofs.answer.Tie as tie
-use Rattle.reader.proofs.answer.Reads as reads
-use Rattle.reader.proofs.answer.Lts as lts
-use Rattle.printed.proofs.print_sheet.Reads as print-sheet-reads
-use Rattle.reader.proofs.write_out.Reads as write-out-reads
 
--- src/main.rt:60:44
 slice-aggregate-print-sheet : tie.Need-slice-aggregate-print-sheet
 slice-aggregate-print-sheet c = search needs
 
--- src/main.rt:60:9
 print-sheet-requires : tie.Need-print-sheet-requires
 print-sheet-requires c κs = search needs
 
--- src/main.rt:62:32
 enum-known-made : tie.Need-enum-known-made
 enum-known-made c = search needs
 
--- src/main.rt:62:54
 array-share-prefix-text : tie.Need-array-share-prefix-text
 array-share-prefix-text c = sheet-within (c .before .before .before .before .print-sheet .result) (c .before .made .given .0 .0) _ (c .before .made .given .1) _ _ (c .before .before .before .before .print-sheet .ensures)
 
--- src/main.rt:62:54
 slice-aggregate-write-out : tie.Need-slice-aggregate-write-out
 slice-aggregate-write-out c = sym (length-take-le _ _ (sheet-within (c .before .before .before .before .before .print-sheet .result) (c .before .before .made .given .0 .0) _ (c .before .before .made .given .1) _ _ (c .before .before .before .before .before .print-sheet .ensures)))
 
--- src/main.rt:62:44
 write-out-requires : tie.Need-write-out-requires
 write-out-requires c κs = search needs
 
--- src/main.rt:63:32
 enum-told : tie.Need-enum-told
 enum-told c = search needs
 
--- src/main.rt:58:1
 returns : tie.Need-returns
 returns c = search needs
 
--- src/main.rt:58:1
 returns-2 : tie.Need-returns-2
 returns-2 c = search needs
 

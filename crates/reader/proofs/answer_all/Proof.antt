@@ -3,12 +3,6 @@ use Prim.Native.Nat.{_-_}
 use borrow.Author.Needs.{needs}
 use Rattle.reader.proofs.answer_all.Statement.{statement}
 use Rattle.reader.proofs.answer_all.Tie as tie
-use Rattle.reader.proofs.answer_all.Reads as reads
-use Rattle.reader.proofs.answer_all.Lts as lts
-use Rattle.io.proofs.buffer.Reads as buffer-reads
-use Rattle.os.proofs.arg.Reads as arg-reads
-use Rattle.reader.proofs.answer_from.Reads as answer-from-reads
-use Rattle.reader.proofs.answer_word.Reads as answer-word-reads
 
 abbrev Inv-loop : tie.InvT-loop
 Inv-loop count is-past₀ has-sheet₀ i₀ t8 is-past has-sheet i = Unit {0}
@@ -16,63 +10,48 @@ Inv-loop count is-past₀ has-sheet₀ i₀ t8 is-past has-sheet i = Unit {0}
 abbrev μ-loop : tie.MeasureT-loop
 μ-loop count is-past₀ has-sheet₀ i₀ t8 is-past has-sheet i = count - i
 
--- src/main.rt:133:5
 loop-holds : tie.Need-loop-holds Inv-loop μ-loop
 loop-holds c = search needs
 
--- src/main.rt:134:24
 buffer-requires : tie.Need-buffer-requires Inv-loop μ-loop
 buffer-requires c κs = search needs
 
--- src/main.rt:135:33
 slice-aggregate-arg : tie.Need-slice-aggregate-arg Inv-loop μ-loop
 slice-aggregate-arg c = search needs
 
--- src/main.rt:135:13
 arg-requires : tie.Need-arg-requires Inv-loop μ-loop
 arg-requires c κs = search needs
 
--- src/main.rt:136:32
 array-share-prefix-word : tie.Need-array-share-prefix-word Inv-loop μ-loop
 array-share-prefix-word c = search needs
 
--- src/main.rt:136:32
 slice-aggregate-answer-word : tie.Need-slice-aggregate-answer-word Inv-loop μ-loop
 slice-aggregate-answer-word c = search needs
 
--- src/main.rt:136:13
 answer-word-requires : tie.Need-answer-word-requires Inv-loop μ-loop
 answer-word-requires c κs = search needs
 
--- src/main.rt:138:13
 returns : tie.Need-returns Inv-loop μ-loop
 returns c = search needs
 
--- src/main.rt:142:9
 add-i : tie.Need-add-i Inv-loop μ-loop
 add-i c = search needs
 
--- src/main.rt:133:5
 loop-less : tie.Need-loop-less Inv-loop μ-loop
 loop-less c = search needs
 
--- src/main.rt:133:5
 loop-again : tie.Need-loop-again Inv-loop μ-loop
 loop-again c = search needs
 
--- src/main.rt:145:35
 slice-aggregate-answer-from : tie.Need-slice-aggregate-answer-from Inv-loop μ-loop
 slice-aggregate-answer-from c = search needs
 
--- src/main.rt:145:9
 answer-from-requires : tie.Need-answer-from-requires Inv-loop μ-loop
 answer-from-requires c κs = search needs
 
--- src/main.rt:129:1
 returns-2 : tie.Need-returns-2 Inv-loop μ-loop
 returns-2 c = search needs
 
--- src/main.rt:129:1
 returns-3 : tie.Need-returns-3 Inv-loop μ-loop
 returns-3 c = search needs
 

@@ -5,44 +5,31 @@ use Rattle.printed.proofs.Within.{message-within}
 use borrow.Author.Needs.{needs}
 use Rattle.reader.proofs.say.Statement.{statement}
 use Rattle.reader.proofs.say.Tie as tie
-use Rattle.reader.proofs.say.Reads as reads
-use Rattle.reader.proofs.say.Lts as lts
-use Rattle.io.proofs.write_all.Reads as write-all-reads
-use Rattle.printed.proofs.print_message.Reads as print-message-reads
 
--- src/main.rt:32:52
 slice-aggregate-print-message : tie.Need-slice-aggregate-print-message
 slice-aggregate-print-message c = search needs
 
--- src/main.rt:32:9
 print-message-requires : tie.Need-print-message-requires
 print-message-requires c κs = search needs
 
--- src/main.rt:34:32
 enum-known-made : tie.Need-enum-known-made
 enum-known-made c = search needs
 
--- src/main.rt:34:73
 array-share-prefix-text : tie.Need-array-share-prefix-text
 array-share-prefix-text c = message-within (c .before .before .before .before .print-message .result) (c .before .made .given .0 .0) _ (c .before .made .given .1) _ _ _ (c .before .before .before .before .print-message .ensures)
 
--- src/main.rt:34:73
 slice-aggregate-write-all : tie.Need-slice-aggregate-write-all
 slice-aggregate-write-all c = sym (length-take-le _ _ (message-within (c .before .before .before .before .before .print-message .result) (c .before .before .made .given .0 .0) _ (c .before .before .made .given .1) _ _ _ (c .before .before .before .before .before .print-message .ensures)))
 
--- src/main.rt:34:44
 write-all-requires : tie.Need-write-all-requires
 write-all-requires c κs = search needs
 
--- src/main.rt:35:32
 enum-told : tie.Need-enum-told
 enum-told c = search needs
 
--- src/main.rt:30:1
 returns : tie.Need-returns
 returns c = search needs
 
--- src/main.rt:30:1
 returns-2 : tie.Need-returns-2
 returns-2 c = search needs
 

@@ -9,56 +9,40 @@ use Rattle.printed.specs.Answer.{TracksWithin}
 use Rattle.printed.proofs.Joined.{putting-as}
 use Rattle.printed.proofs.answer.put_answer.Statement.{statement}
 use Rattle.printed.proofs.answer.put_answer.Tie as tie
-use Rattle.printed.proofs.answer.put_answer.Reads as reads
-use Rattle.printed.proofs.answer.put_answer.Lts as lts
-use Rattle.board.proofs.refusal.Refusal.number.Reads as number-reads
-use Rattle.board.proofs.refusal.Refusal.place.Reads as place-reads
-use Rattle.printed.proofs.answer.put_board.Reads as put-board-reads
-use Rattle.printed.proofs.answer.put_refusal.Reads as put-refusal-reads
 
--- src/answer.rt:86:13
 enum-known-answer : tie.Need-enum-known-answer
 enum-known-answer c = search needs
 
--- src/answer.rt:89:14
 put-board-requires : tie.Need-put-board-requires
 put-board-requires c κs =
     let entry = c .before .before .before .before .before in
     let within = subst (λ (a : BoardAnswer). TracksWithin (boardTold a) (entry .args .places .now)) (c .before .before .answer .given .1) (entry .pre .0) in
     (within, omega (arith, entry .pre .1))
 
--- src/answer.rt:90:30
 enum-known-answer-2 : tie.Need-enum-known-answer-2
 enum-known-answer-2 c = search needs
 
--- src/answer.rt:90:54
 number-requires : tie.Need-number-requires
 number-requires c κs = search needs
 
--- src/answer.rt:90:72
 place-requires : tie.Need-place-requires
 place-requires c κs = search needs
 
--- src/answer.rt:90:42
 put-refusal-requires : tie.Need-put-refusal-requires
 put-refusal-requires c κs = search needs
 
--- src/answer.rt:80:1
 same-length : tie.Need-same-length
 same-length c = search needs
 
--- src/answer.rt:80:1
 returns : tie.Need-returns
 returns c =
     let entry = c .before .before .before .before .before .before .before .before in
     let within = subst (λ (a : BoardAnswer). TracksWithin (boardTold a) (entry .args .places .now)) (c .before .before .before .before .before .answer .given .1) (entry .pre .0) in
     putting-as (omega arith) (ap (λ (a : BoardAnswer). answerText (boardTold a) (entry .args .places .now)) (sym (c .before .before .before .before .before .answer .given .1))) (c .before .before .put-board .ensures)
 
--- src/answer.rt:80:1
 same-length-2 : tie.Need-same-length-2
 same-length-2 c = search needs
 
--- src/answer.rt:80:1
 returns-2 : tie.Need-returns-2
 returns-2 c =
     let entry = c .before .before .before .before .before .before .before .before .before .before in

@@ -4,24 +4,16 @@ use borrow.Author.Needs.{needs}
 use Rattle.printed.proofs.Joined.{putting-then}
 use Rattle.printed.proofs.answer.put_board.Statement.{statement}
 use Rattle.printed.proofs.answer.put_board.Tie as tie
-use Rattle.printed.proofs.answer.put_board.Reads as reads
-use Rattle.printed.proofs.answer.put_board.Lts as lts
-use Rattle.printed.proofs.answer.put_board_line.Reads as put-board-line-reads
-use Rattle.printed.proofs.answer.put_track_lines.Reads as put-track-lines-reads
 
--- src/answer.rt:65:9
 put-board-line-requires : tie.Need-put-board-line-requires
 put-board-line-requires c κs = search needs
 
--- src/answer.rt:66:5
 put-track-lines-requires : tie.Need-put-track-lines-requires
 put-track-lines-requires c κs = search needs
 
--- src/answer.rt:61:1
 same-length : tie.Need-same-length
 same-length c = search needs
 
--- src/answer.rt:61:1
 returns : tie.Need-returns
 returns c = putting-then (omega arith) (c .before .before .before .before .before .before .put-board-line .ensures) (c .before .before .put-track-lines .ensures)
 

@@ -5,54 +5,37 @@ use native.Mathlib.Omega.{arith}
 use Rattle.printed.proofs.Joined.{putting-then, putting-as}
 use Rattle.printed.proofs.answer.put_board_line.Statement.{statement}
 use Rattle.printed.proofs.answer.put_board_line.Tie as tie
-use Rattle.printed.proofs.answer.put_board_line.Reads as reads
-use Rattle.printed.proofs.answer.put_board_line.Lts as lts
-use Rattle.printed.proofs.answer.put_free.Reads as put-free-reads
-use Rattle.printed.proofs.put.put_cell.Reads as put-cell-reads
-use Rattle.printed.proofs.put.put_number.Reads as put-number-reads
-use Rattle.printed.proofs.put.put_word.Reads as put-word-reads
 
--- src/answer.rt:31:35
 slice-aggregate-put-word : tie.Need-slice-aggregate-put-word
 slice-aggregate-put-word c = search needs
 
--- src/answer.rt:31:9
 put-word-requires : tie.Need-put-word-requires
 put-word-requires c κs = search needs
 
--- src/answer.rt:32:9
 put-number-requires : tie.Need-put-number-requires
 put-number-requires c κs = search needs
 
--- src/answer.rt:33:47
 slice-aggregate-put-word-2 : tie.Need-slice-aggregate-put-word-2
 slice-aggregate-put-word-2 c = search needs
 
--- src/answer.rt:33:9
 put-word-requires-2 : tie.Need-put-word-requires-2
 put-word-requires-2 c κs = search needs
 
--- src/answer.rt:34:9
 put-free-requires : tie.Need-put-free-requires
 put-free-requires c κs = search needs
 
--- src/answer.rt:35:47
 slice-aggregate-put-word-3 : tie.Need-slice-aggregate-put-word-3
 slice-aggregate-put-word-3 c = search needs
 
--- src/answer.rt:35:9
 put-word-requires-3 : tie.Need-put-word-requires-3
 put-word-requires-3 c κs = search needs
 
--- src/answer.rt:36:5
 put-cell-requires : tie.Need-put-cell-requires
 put-cell-requires c κs = search needs
 
--- src/answer.rt:27:1
 same-length : tie.Need-same-length
 same-length c = search needs
 
--- src/answer.rt:27:1
 returns : tie.Need-returns
 returns c =
     putting-as (omega arith) (simp append-assoc)

@@ -11,45 +11,32 @@ use Rattle.printed.specs.Rule.{signed, freeText}
 use Rattle.printed.proofs.Joined.{putting-as}
 use Rattle.printed.proofs.answer.put_free.Statement.{statement}
 use Rattle.printed.proofs.answer.put_free.Tie as tie
-use Rattle.printed.proofs.answer.put_free.Reads as reads
-use Rattle.printed.proofs.answer.put_free.Lts as lts
-use Rattle.printed.proofs.put.put_signed.Reads as put-signed-reads
-use Rattle.printed.proofs.put.put_word.Reads as put-word-reads
 
--- src/answer.rt:22:36
 enum-told : tie.Need-enum-told
 enum-told c = search needs
 
--- src/answer.rt:22:36
 slice-aggregate-put-word : tie.Need-slice-aggregate-put-word
 slice-aggregate-put-word c = search needs
 
--- src/answer.rt:22:23
 put-word-requires : tie.Need-put-word-requires
 put-word-requires c κs = search needs
 
--- src/answer.rt:23:20
 enum-known-free : tie.Need-enum-known-free
 enum-known-free c = search needs
 
--- src/answer.rt:23:29
 put-signed-requires : tie.Need-put-signed-requires
 put-signed-requires c κs = search needs
 
--- src/answer.rt:17:1
 same-length : tie.Need-same-length
 same-length c = search needs
 
--- src/answer.rt:17:1
 returns : tie.Need-returns
 returns c =
     putting-as (omega arith) (ap (λ (f : Free). freeText (freeTold f)) (sym (c .before .before .before .before .before .enum-told .given .1))) (c .before .before .put-word .ensures)
 
--- src/answer.rt:17:1
 same-length-2 : tie.Need-same-length-2
 same-length-2 c = search needs
 
--- src/answer.rt:17:1
 returns-2 : tie.Need-returns-2
 returns-2 c =
     let fits : SFits w32 (c .before .before .before .before .before .free .given .0 .0) = record { sfits = c .before .before .before .before .known-told .given .0 .1 } in

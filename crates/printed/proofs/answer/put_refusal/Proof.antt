@@ -5,41 +5,28 @@ use native.Mathlib.Omega.{arith}
 use Rattle.printed.proofs.Joined.{putting-then, putting-as}
 use Rattle.printed.proofs.answer.put_refusal.Statement.{statement}
 use Rattle.printed.proofs.answer.put_refusal.Tie as tie
-use Rattle.printed.proofs.answer.put_refusal.Reads as reads
-use Rattle.printed.proofs.answer.put_refusal.Lts as lts
-use Rattle.printed.proofs.put.put_cell.Reads as put-cell-reads
-use Rattle.printed.proofs.put.put_number.Reads as put-number-reads
-use Rattle.printed.proofs.put.put_word.Reads as put-word-reads
 
--- src/answer.rt:73:35
 slice-aggregate-put-word : tie.Need-slice-aggregate-put-word
 slice-aggregate-put-word c = search needs
 
--- src/answer.rt:73:9
 put-word-requires : tie.Need-put-word-requires
 put-word-requires c κs = search needs
 
--- src/answer.rt:74:9
 put-number-requires : tie.Need-put-number-requires
 put-number-requires c κs = search needs
 
--- src/answer.rt:75:48
 slice-aggregate-put-word-2 : tie.Need-slice-aggregate-put-word-2
 slice-aggregate-put-word-2 c = search needs
 
--- src/answer.rt:75:9
 put-word-requires-2 : tie.Need-put-word-requires-2
 put-word-requires-2 c κs = search needs
 
--- src/answer.rt:76:5
 put-cell-requires : tie.Need-put-cell-requires
 put-cell-requires c κs = search needs
 
--- src/answer.rt:69:1
 same-length : tie.Need-same-length
 same-length c = search needs
 
--- src/answer.rt:69:1
 returns : tie.Need-returns
 returns c =
     putting-as (omega arith) (simp append-assoc)

@@ -5,43 +5,31 @@ use native.Mathlib.Omega.{arith}
 use Rattle.printed.proofs.Joined.{putting-then, putting-as}
 use Rattle.printed.proofs.answer.put_track_line.Statement.{statement}
 use Rattle.printed.proofs.answer.put_track_line.Tie as tie
-use Rattle.printed.proofs.answer.put_track_line.Reads as reads
-use Rattle.printed.proofs.answer.put_track_line.Lts as lts
-use Rattle.printed.proofs.put.put_cell.Reads as put-cell-reads
 
--- src/answer.rt:43:9
 put-cell-requires : tie.Need-put-cell-requires
 put-cell-requires c κs = search needs
 
--- src/answer.rt:44:46
 array-read-put-cell : tie.Need-array-read-put-cell
 array-read-put-cell c = search needs
 
--- src/answer.rt:44:46
 cast-put-cell : tie.Need-cast-put-cell
 cast-put-cell c = search needs
 
--- src/answer.rt:44:9
 put-cell-requires-2 : tie.Need-put-cell-requires-2
 put-cell-requires-2 c κs = search needs
 
--- src/answer.rt:45:27
 array-read-put-cell-2 : tie.Need-array-read-put-cell-2
 array-read-put-cell-2 c = search needs
 
--- src/answer.rt:45:27
 cast-put-cell-2 : tie.Need-cast-put-cell-2
 cast-put-cell-2 c = search needs
 
--- src/answer.rt:45:5
 put-cell-requires-3 : tie.Need-put-cell-requires-3
 put-cell-requires-3 c κs = search needs
 
--- src/answer.rt:39:1
 same-length : tie.Need-same-length
 same-length c = search needs
 
--- src/answer.rt:39:1
 returns : tie.Need-returns
 returns c =
     let room = c .before .before .before .before .before .before .before .before .before .before .before .before .before .pre in

@@ -10,9 +10,6 @@ use Rattle.printed.proofs.Joined.{putting-then, putting-none, putting-a
 use Rattle.printed.proofs.Turns.{lines-turn}
 use Rattle.printed.proofs.answer.put_track_lines.Statement.{statement}
 use Rattle.printed.proofs.answer.put_track_lines.Tie as tie
-use Rattle.printed.proofs.answer.put_track_lines.Reads as reads
-use Rattle.printed.proofs.answer.put_track_lines.Lts as lts
-use Rattle.printed.proofs.answer.put_track_line.Reads as put-track-line-reads
 
 abbrev Inv-loop : tie.InvT-loop
 Inv-loop at tracks places into₀ next₀ t₀ into next t = (t ≤ tracks) × Putting (63 * t) at (trackLines 0 (take t places)) into₀ into next
@@ -20,47 +17,38 @@ Inv-loop at tracks places into₀ next₀ t₀ into next t = (t ≤ tracks) × P
 abbrev μ-loop : tie.MeasureT-loop
 μ-loop at tracks places into₀ next₀ t₀ into next t = tracks - t
 
--- src/answer.rt:54:5
 loop-holds : tie.Need-loop-holds Inv-loop μ-loop
 unfolding trackLines
 loop-holds c = (omega arith, putting-as (omega arith) refl (putting-none (c .before .args .at) (c .before .args .into .now)))
 
--- src/answer.rt:55:40
 mul-put-track-line : tie.Need-mul-put-track-line Inv-loop μ-loop
 mul-put-track-line c = search needs
 
--- src/answer.rt:55:40
 shared-slice-copy-out-put-track-line :
     tie.Need-shared-slice-copy-out-put-track-line Inv-loop μ-loop
 shared-slice-copy-out-put-track-line c = search needs
 
--- src/answer.rt:55:9
 put-track-line-requires : tie.Need-put-track-line-requires Inv-loop μ-loop
 put-track-line-requires c κs =
     let put = c .before .before .before .loop .inv .1 in
     let pre = c .before .before .before .before .before .pre in
     omega (arith, put .few, put .kept, pre .1)
 
--- src/answer.rt:56:9
 add-t : tie.Need-add-t Inv-loop μ-loop
 add-t c = search needs
 
--- src/answer.rt:54:5
 loop-less : tie.Need-loop-less Inv-loop μ-loop
 loop-less c = search needs
 
--- src/answer.rt:54:5
 loop-again : tie.Need-loop-again Inv-loop μ-loop
 loop-again c =
     let at = c .before .before .before .before .before .before .loop in
     let entry = c .before .before .before .before .before .before .before .before in
     (omega arith, putting-as (omega arith) (lines-turn (entry .args .places .now) (at .t) (omega (arith, entry .pre .0))) (putting-then (omega (arith, entry .pre .1)) (at .inv .1) (c .before .before .put-track-line .ensures)))
 
--- src/answer.rt:48:1
 same-length : tie.Need-same-length Inv-loop μ-loop
 same-length c = c .before .loop .inv .1 .kept
 
--- src/answer.rt:48:1
 returns : tie.Need-returns Inv-loop μ-loop
 returns c =
     let at = c .before .loop in

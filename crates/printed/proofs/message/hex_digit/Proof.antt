@@ -3,22 +3,16 @@ use borrow.Author.Tests.{lt-ltb, le-ltb}
 use borrow.Author.Needs.{needs}
 use Rattle.printed.proofs.message.hex_digit.Statement.{statement}
 use Rattle.printed.proofs.message.hex_digit.Tie as tie
-use Rattle.printed.proofs.message.hex_digit.Reads as reads
-use Rattle.printed.proofs.message.hex_digit.Lts as lts
 
--- src/message.rt:39:16
 add-result : tie.Need-add-result
 add-result c = search needs
 
--- src/message.rt:39:9
 returns : tie.Need-returns
 returns c = rw (lt-ltb (c .before .args .d) 10 (c .if1 .taken))
 
--- src/message.rt:41:5
 add-result-2 : tie.Need-add-result-2
 add-result-2 c = search needs
 
--- src/message.rt:34:1
 returns-2 : tie.Need-returns-2
 returns-2 c = rw (le-ltb (c .before .args .d) 10 (c .if1 .left))
 

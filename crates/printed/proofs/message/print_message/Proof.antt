@@ -3,31 +3,22 @@ use Rattle.printed.proofs.MessageCall.{long-name, many-words, little-ro
 use borrow.Author.Needs.{needs}
 use Rattle.printed.proofs.message.print_message.Statement.{statement}
 use Rattle.printed.proofs.message.print_message.Tie as tie
-use Rattle.printed.proofs.message.print_message.Reads as reads
-use Rattle.printed.proofs.message.print_message.Lts as lts
-use Rattle.printed.proofs.message.put_message.Reads as put-message-reads
 
--- src/message.rt:84:9
 returns : tie.Need-returns
 returns c = long-name (c .before .before .before .before .args .name .now) (c .before .before .before .before .args .words .now) (c .before .before .before .before .args .into .now) (c .if1 .taken)
 
--- src/message.rt:87:9
 returns-2 : tie.Need-returns-2
 returns-2 c = many-words (c .before .before .before .before .before .args .name .now) (c .before .before .before .before .before .args .words .now) (c .before .before .before .before .before .args .into .now) (c .before .if1 .left) (c .if2 .taken)
 
--- src/message.rt:90:9
 returns-3 : tie.Need-returns-3
 returns-3 c = little-room (c .before .before .before .before .before .before .args .name .now) (c .before .before .before .before .before .before .args .words .now) (c .before .before .before .before .before .before .args .into .now) (c .before .before .if1 .left) (c .before .if2 .left) (c .if3 .taken)
 
--- src/message.rt:92:9
 put-message-requires : tie.Need-put-message-requires
 put-message-requires c κs = search needs
 
--- src/message.rt:80:1
 same-length : tie.Need-same-length
 same-length c = search needs
 
--- src/message.rt:80:1
 returns-4 : tie.Need-returns-4
 returns-4 c = message-printed (c .before .before .before .before .before .before .before .before .before .before .args .name .now) (c .before .before .before .before .before .before .before .before .before .before .args .words .now) (c .before .before .before .before .before .before .before .before .before .before .args .into .now) (c .before .before .before .before .before .before .if1 .left) (c .before .before .before .before .before .if2 .left) (c .before .before .before .before .if3 .left) _ _ _ (c .before .before .put-message .ensures)
 

@@ -5,40 +5,28 @@ use Rattle.printed.proofs.Joined.{putting-then, putting-as}
 use borrow.Author.Needs.{needs}
 use Rattle.printed.proofs.message.put_message.Statement.{statement}
 use Rattle.printed.proofs.message.put_message.Tie as tie
-use Rattle.printed.proofs.message.put_message.Reads as reads
-use Rattle.printed.proofs.message.put_message.Lts as lts
-use Rattle.printed.proofs.message.put_name.Reads as put-name-reads
-use Rattle.printed.proofs.put.put_word.Reads as put-word-reads
 
--- src/message.rt:74:30
 slice-aggregate-put-word : tie.Need-slice-aggregate-put-word
 slice-aggregate-put-word c = search needs
 
--- src/message.rt:74:9
 put-word-requires : tie.Need-put-word-requires
 put-word-requires c κs = search needs
 
--- src/message.rt:75:9
 put-name-requires : tie.Need-put-name-requires
 put-name-requires c κs = search needs
 
--- src/message.rt:76:34
 slice-aggregate-put-word-2 : tie.Need-slice-aggregate-put-word-2
 slice-aggregate-put-word-2 c = search needs
 
--- src/message.rt:76:9
 put-word-requires-2 : tie.Need-put-word-requires-2
 put-word-requires-2 c κs = search needs
 
--- src/message.rt:77:5
 put-word-requires-3 : tie.Need-put-word-requires-3
 put-word-requires-3 c κs = search needs
 
--- src/message.rt:70:1
 same-length : tie.Need-same-length
 same-length c = search needs
 
--- src/message.rt:70:1
 returns : tie.Need-returns
 returns c =
     putting-as (omega arith) (simp append-assoc)

@@ -12,9 +12,6 @@ use Rattle.printed.proofs.Shown.{name-turn}
 use borrow.Author.Needs.{needs}
 use Rattle.printed.proofs.message.put_name.Statement.{statement}
 use Rattle.printed.proofs.message.put_name.Tie as tie
-use Rattle.printed.proofs.message.put_name.Reads as reads
-use Rattle.printed.proofs.message.put_name.Lts as lts
-use Rattle.printed.proofs.message.put_shown.Reads as put-shown-reads
 
 abbrev Inv-loop : tie.InvT-loop
 Inv-loop at name into₀ next₀ i₀ into next i = (i ≤ length name) × Putting (4 * i) at (flatMap shown (take i name)) into₀ into next
@@ -22,41 +19,33 @@ Inv-loop at name into₀ next₀ i₀ into next i = (i ≤ length name) × Putti
 abbrev μ-loop : tie.MeasureT-loop
 μ-loop at name into₀ next₀ i₀ into next i = length name - i
 
--- src/message.rt:63:5
 loop-holds : tie.Need-loop-holds Inv-loop μ-loop
 unfolding flatMap
 loop-holds c = (omega arith, putting-as (omega arith) refl (putting-none (c .before .before .args .at) (c .before .before .args .into .now)))
 
--- src/message.rt:64:32
 shared-slice-read-put-shown : tie.Need-shared-slice-read-put-shown Inv-loop μ-loop
 shared-slice-read-put-shown c = search needs
 
--- src/message.rt:64:9
 put-shown-requires : tie.Need-put-shown-requires Inv-loop μ-loop
 put-shown-requires c κs =
     let put = c .before .before .before .loop .inv .1 in
     omega (arith, put .few, put .kept, c .before .before .before .before .before .before .pre)
 
--- src/message.rt:65:9
 add-i : tie.Need-add-i Inv-loop μ-loop
 add-i c = search needs
 
--- src/message.rt:63:5
 loop-less : tie.Need-loop-less Inv-loop μ-loop
 loop-less c = search needs
 
--- src/message.rt:63:5
 loop-again : tie.Need-loop-again Inv-loop μ-loop
 loop-again c =
     let at = c .before .before .before .before .before .before .loop in
     let entry = c .before .before .before .before .before .before .before .before .before in
     (omega arith, putting-as (omega arith) (name-turn (entry .args .name .now) (at .i) (omega arith)) (putting-then (omega (arith, entry .pre)) (at .inv .1) (c .before .before .put-shown .ensures)))
 
--- src/message.rt:57:1
 same-length : tie.Need-same-length Inv-loop μ-loop
 same-length c = c .before .loop .inv .1 .kept
 
--- src/message.rt:57:1
 returns : tie.Need-returns Inv-loop μ-loop
 returns c =
     let at = c .before .loop in

@@ -7,24 +7,16 @@ use Rattle.printed.proofs.Joined.{putting-as}
 use Rattle.printed.proofs.Decimal.{decimal-of-fewest, fewest-le}
 use Rattle.printed.proofs.put.put_number.Statement.{statement}
 use Rattle.printed.proofs.put.put_number.Tie as tie
-use Rattle.printed.proofs.put.put_number.Reads as reads
-use Rattle.printed.proofs.put.put_number.Lts as lts
-use Rattle.io.proofs.decimal.Reads as decimal-reads
-use Rattle.printed.proofs.put.put_word.Reads as put-word-reads
 
--- src/put.rt:27:9
 decimal-requires : tie.Need-decimal-requires
 decimal-requires c κs = search needs
 
--- src/put.rt:28:18
 array-share-prefix-digits : tie.Need-array-share-prefix-digits
 array-share-prefix-digits c = search needs
 
--- src/put.rt:28:18
 slice-aggregate-put-word : tie.Need-slice-aggregate-put-word
 slice-aggregate-put-word c = search needs
 
--- src/put.rt:28:5
 put-word-requires : tie.Need-put-word-requires
 put-word-requires c κs =
     let entry = c .before .before .before .before .before in
@@ -32,11 +24,9 @@ put-word-requires c κs =
     let few = fewest-le (entry .args .n) (made .result) (entry .fits .n .fits) (made .ensures .1 .0) in
     omega (arith, made .ensures .0 .1, entry .pre)
 
--- src/put.rt:22:1
 same-length : tie.Need-same-length
 same-length c = search needs
 
--- src/put.rt:22:1
 returns : tie.Need-returns
 returns c =
     let entry = c .before .before .before .before .before .before .before .before in

@@ -12,52 +12,37 @@ use mir.Val.{toZ, ofZ}
 use mir.Facts.{toZ-ofZ}
 use Rattle.printed.proofs.put.put_signed.Statement.{statement}
 use Rattle.printed.proofs.put.put_signed.Tie as tie
-use Rattle.printed.proofs.put.put_signed.Reads as reads
-use Rattle.printed.proofs.put.put_signed.Lts as lts
-use Rattle.printed.proofs.put.magnitude.Reads as magnitude-reads
-use Rattle.printed.proofs.put.put_number.Reads as put-number-reads
-use Rattle.printed.proofs.put.put_word.Reads as put-word-reads
 
--- src/put.rt:56:33
 slice-aggregate-put-word : tie.Need-slice-aggregate-put-word
 slice-aggregate-put-word c = search needs
 
--- src/put.rt:56:13
 put-word-requires : tie.Need-put-word-requires
 put-word-requires c κs = search needs
 
--- src/put.rt:57:33
 magnitude-requires : tie.Need-magnitude-requires
 magnitude-requires c κs = search needs
 
--- src/put.rt:57:9
 put-number-requires : tie.Need-put-number-requires
 put-number-requires c κs = search needs
 
--- src/put.rt:57:9
 same-length : tie.Need-same-length
 same-length c = search needs
 
--- src/put.rt:57:9
 returns : tie.Need-returns
 returns c =
     let entry = c .before .before .before .before .before .before .before .before .before .before .before .before in
     putting-as (omega arith) (ap (λ (k : ℕ). word "-" ++ decimal k) (c .before .before .before .before .magnitude .ensures) ∙ (signed-of-below (toZ w32 (ofZ w32 (entry .args .n))) (c .before .before .before .before .before .before .before .before .before .before .if1 .taken) ∙ ap signed (toZ-ofZ (entry .fits .n))))
     (putting-then (omega (arith, entry .pre)) (c .before .before .before .before .before .before .before .put-word .ensures) (c .before .before .put-number .ensures))
 
--- src/put.rt:59:20
 magnitude-requires-2 : tie.Need-magnitude-requires-2
 magnitude-requires-2 c κs = search needs
 
--- src/put.rt:59:5
 put-number-requires-2 : tie.Need-put-number-requires-2
 put-number-requires-2 c κs = search needs
 
--- src/put.rt:51:1
 same-length-2 : tie.Need-same-length-2
 same-length-2 c = search needs
 
--- src/put.rt:51:1
 returns-2 : tie.Need-returns-2
 returns-2 c =
     let entry = c .before .before .before .before .before .before .before in

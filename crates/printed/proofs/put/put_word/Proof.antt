@@ -10,8 +10,6 @@ use Rattle.laws.specs.Put.{put, put-none}
 use Rattle.printed.proofs.Turns.{word-turn}
 use Rattle.printed.proofs.put.put_word.Statement.{statement}
 use Rattle.printed.proofs.put.put_word.Tie as tie
-use Rattle.printed.proofs.put.put_word.Reads as reads
-use Rattle.printed.proofs.put.put_word.Lts as lts
 
 abbrev Inv-loop : tie.InvT-loop
 Inv-loop at text into₀ i₀ into i = (i ≤ length text) × (into ≡ put at (take i text) into₀) × (length into ≡ length into₀)
@@ -19,31 +17,24 @@ Inv-loop at text into₀ i₀ into i = (i ≤ length text) × (into ≡ put at (
 abbrev μ-loop : tie.MeasureT-loop
 μ-loop at text into₀ i₀ into i = length text - i
 
--- src/put.rt:15:5
 loop-holds : tie.Need-loop-holds Inv-loop μ-loop
 loop-holds c = (omega arith, sym (put-none (c .args .at) (c .args .into .now)), refl)
 
--- src/put.rt:16:24
 shared-slice-read-into : tie.Need-shared-slice-read-into Inv-loop μ-loop
 shared-slice-read-into c = search needs
 
--- src/put.rt:16:14
 add-into : tie.Need-add-into Inv-loop μ-loop
 add-into c = search needs
 
--- src/put.rt:16:9
 slice-write-into : tie.Need-slice-write-into Inv-loop μ-loop
 slice-write-into c = search needs
 
--- src/put.rt:17:9
 add-i : tie.Need-add-i Inv-loop μ-loop
 add-i c = search needs
 
--- src/put.rt:15:5
 loop-less : tie.Need-loop-less Inv-loop μ-loop
 loop-less c = search needs
 
--- src/put.rt:15:5
 loop-again : tie.Need-loop-again Inv-loop μ-loop
 loop-again c =
     let at = c .before .before .loop in
@@ -51,15 +42,12 @@ loop-again c =
     let room = c .before .before .before .pre in
     (omega arith, word-turn (args .at) (at .i) (args .text .now) (args .into .now) (at .into) (omega arith) room (at .inv .1) (at .inv .2), simp length-set (at .inv .2))
 
--- src/put.rt:19:5
 add-result : tie.Need-add-result Inv-loop μ-loop
 add-result c = search needs
 
--- src/put.rt:10:1
 same-length : tie.Need-same-length Inv-loop μ-loop
 same-length c = search needs
 
--- src/put.rt:10:1
 returns : tie.Need-returns Inv-loop μ-loop
 returns c =
     let at = c .before .loop in

@@ -5,10 +5,7 @@ use Rattle.sheet.proofs.Front.{longest-is}
 use borrow.Author.Needs.{needs}
 use Rattle.reader.proofs.input.buffer.Statement.{statement}
 use Rattle.reader.proofs.input.buffer.Tie as tie
-use Rattle.reader.proofs.input.buffer.Reads as reads
-use Rattle.reader.proofs.input.buffer.Lts as lts
 
--- src/input.rt:20:1
 returns : tie.Need-returns
 returns c = ap (λ (k : ℕ). k + 1) longest-is ∙ (search needs)
 

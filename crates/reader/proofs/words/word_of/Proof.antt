@@ -4,59 +4,43 @@ use Rattle.reader.proofs.Dashes.{no-dash-of-empty}
 use borrow.Author.Needs.{needs}
 use Rattle.reader.proofs.words.word_of.Statement.{statement}
 use Rattle.reader.proofs.words.word_of.Tie as tie
-use Rattle.reader.proofs.words.word_of.Reads as reads
-use Rattle.reader.proofs.words.word_of.Lts as lts
-use Rattle.check.proofs.same.Reads as same-reads
 
--- src/words.rt:58:26
 slice-aggregate-same : tie.Need-slice-aggregate-same
 slice-aggregate-same c = search needs
 
--- src/words.rt:58:8
 same-requires : tie.Need-same-requires
 same-requires c κs = search needs
 
--- src/words.rt:59:9
 returns : tie.Need-returns
 returns c = c .before .same .ensures .0 (c .if1 .taken)
 
--- src/words.rt:61:26
 slice-aggregate-same-2 : tie.Need-slice-aggregate-same-2
 slice-aggregate-same-2 c = search needs
 
--- src/words.rt:61:8
 same-requires-2 : tie.Need-same-requires-2
 same-requires-2 c κs = search needs
 
--- src/words.rt:62:9
 returns-2 : tie.Need-returns-2
 returns-2 c = c .before .same2 .ensures .0 (c .if2 .taken)
 
--- src/words.rt:64:26
 slice-aggregate-same-3 : tie.Need-slice-aggregate-same-3
 slice-aggregate-same-3 c = search needs
 
--- src/words.rt:64:8
 same-requires-3 : tie.Need-same-requires-3
 same-requires-3 c κs = search needs
 
--- src/words.rt:65:9
 returns-3 : tie.Need-returns-3
 returns-3 c = c .before .same3 .ensures .0 (c .if3 .taken)
 
--- src/words.rt:68:9
 returns-4 : tie.Need-returns-4
 returns-4 c = no-dash-of-empty (c .before .before .before .before .before .before .before .before .before .before .before .args .word .now) (c .if4 .taken)
 
--- src/words.rt:70:8
 shared-slice-read-if5 : tie.Need-shared-slice-read-if5
 shared-slice-read-if5 c = search needs
 
--- src/words.rt:71:9
 returns-5 : tie.Need-returns-5
 returns-5 c = (c .if5 .taken, (λ e. never (c .before .before .before .before .before .before .before .before .before .before .same .ensures .1 e) (c .before .before .before .before .before .before .before .before .before .if1 .left)), (λ e. never (c .before .before .before .before .before .before .before .same2 .ensures .1 e) (c .before .before .before .before .before .before .if2 .left)), (λ e. never (c .before .before .before .before .same3 .ensures .1 e) (c .before .before .before .if3 .left)))
 
--- src/words.rt:55:1
 returns-6 : tie.Need-returns-6
 returns-6 c = c .if5 .left
 

@@ -60,29 +60,34 @@ impl Tally {
     }
 }
 
+// To standard output.
+fn tell(words: &[u8]) {
+    io::write_all(STDOUT_FILENO, words);
+}
+
 fn print_first(text: &[u8], number: usize, name: usize)
     requires { ⌜ name ≤ length (now text) ⌝ }
 {
     let end = Run::Line.end(text, name);
-    io::write_all(STDOUT_FILENO, b"first to differ: case ");
+    tell(b"first to differ: case ");
     io::print_decimal(STDOUT_FILENO, number as u64);
-    io::write_all(STDOUT_FILENO, b",");
+    tell(b",");
     // The name begins with the blank after its '#'.
-    io::write_all(STDOUT_FILENO, &text[name..end]);
-    io::write_all(STDOUT_FILENO, b"\n");
+    tell(&text[name..end]);
+    tell(b"\n");
 }
 
 pub(crate) fn print_tally(text: &[u8], tally: Tally)
     requires { ⌜ (tally .differ ≤ tally .cases) × (tally .name ≤ length (now text)) ⌝ }
 {
     let agree = tally.cases - tally.differ;
-    io::write_all(STDOUT_FILENO, b"cases ");
+    tell(b"cases ");
     io::print_decimal(STDOUT_FILENO, tally.cases as u64);
-    io::write_all(STDOUT_FILENO, b" agree ");
+    tell(b" agree ");
     io::print_decimal(STDOUT_FILENO, agree as u64);
-    io::write_all(STDOUT_FILENO, b" differ ");
+    tell(b" differ ");
     io::print_decimal(STDOUT_FILENO, tally.differ as u64);
-    io::write_all(STDOUT_FILENO, b"\n");
+    tell(b"\n");
     if tally.differ > 0 {
         print_first(text, tally.first, tally.name);
     }

@@ -13,7 +13,7 @@ use Rattle.board.specs.Answer.{boardTold, boardLeaves}
 use Rattle.board.specs.declared.BoardAnswer.{BoardAnswer}
 use Rattle.board.specs.declared.BoardAnswer.the-variants as answer
 use Rattle.board.proofs.Tracks.{tracks-few}
-use Rattle.printed.specs.Rule.{answerText, outcomeText, ownPlaces, sheetText, noRoom, printed, PrintOutcome, printOutcome, mostText, printCall}
+use Rattle.printed.specs.Rule.{answerText, outcomeText, ownPlaces, sheetText, noRoom, printed, printOutcome, mostText, printCall}
 use Rattle.printed.specs.Answer.{TracksWithin}
 use Rattle.printed.specs.Putting.{Putting}
 

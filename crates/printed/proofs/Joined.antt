@@ -4,7 +4,7 @@ use mathlib.Core.List.{List, [], _++_}
 use Prim.Native.Nat.{ℕ, _+_, _≤_}
 use native.Mathlib.Omega.{arith}
 use lib.ListN.{length, length-append}
-use Rattle.laws.specs.Put.{put, put-then, put-none}
+use Rattle.laws.specs.Put.{put-then, put-none}
 use Rattle.printed.specs.Putting.{Putting}
 
 pub putting-then : {n m at mid next : ℕ} {p q a b c : List ℕ} → at ≤ length a → Putting n at p a b mid → Putting m mid q b c next → Putting (n + m) at (p ++ q) a c next

@@ -1,17 +1,12 @@
--- A message's call, as its code goes; and a message has the line ends of its words and no other. Assumes nothing.
-use mathlib.Core.Path.{_≡_, refl, ap₂, _∙_}
-use mathlib.Core.Bool.{Bool, true, false, cond}
-use mathlib.Core.List.{List, [], _∷_, _++_, flatMap}
-use Prim.Native.Nat.{ℕ, _+_, _/_, _%_, _≤_, _<_}
+-- A message's call, as its code goes. Assumes nothing.
+use mathlib.Core.Path.{_≡_, ap₂, _∙_}
+use mathlib.Core.List.{List}
+use Prim.Native.Nat.{ℕ, _≤_, _<_}
 use native.Mathlib.Nat.{zero-add}
-use native.Mathlib.Omega.{arith}
-use lib.Dec.{ltb, leb}
 use lib.ListN.{length}
-use borrow.Author.Tests.{le-leb, lt-leb, leb-true}
-use Rattle.laws.specs.Tests.{true-or-false}
+use borrow.Author.Tests.{le-leb, lt-leb}
 use Rattle.laws.specs.Put.{put-front}
-use Rattle.laws.specs.Lists.{All}
-use Rattle.printed.specs.Rule.{word, hexDigit, isPlain, shown, quoted, messageText, noRoom, printed, printOutcome, mostName, mostWords, mostMessage, messageCall}
+use Rattle.printed.specs.Rule.{messageText, noRoom, printed, printOutcome, mostName, mostWords, mostMessage, messageCall}
 use Rattle.printed.specs.Putting.{Putting}
 
 module _ (name words lent : List ℕ) where

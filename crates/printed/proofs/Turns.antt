@@ -1,17 +1,15 @@
 -- A turn of each loop over the text: one byte more of a word, one line more of the tracks. Assumes nothing.
-use mathlib.Core.Path.{_≡_, refl, sym, ap, _∙_}
+use mathlib.Core.Path.{_≡_, sym, ap, _∙_}
 use mathlib.Core.List.{List, [], _∷_, _++_, append-assoc, append-nil}
-use Prim.Native.Nat.{ℕ, suc, _+_, _-_, _*_, _≤_, _<_}
+use Prim.Native.Nat.{ℕ, _+_, _≤_, _<_}
 use native.Mathlib.Nat.{add-zero}
 use native.Mathlib.Numerals.{add-one}
 use native.Mathlib.Omega.{arith}
-use lib.ListN.{length, getD, take, drop, set, length-set, length-append}
-use lib.Seq.{take-suc, length-take-le, take-all}
+use lib.ListN.{length, getD, take, set}
+use lib.Seq.{take-suc, length-take-le}
 use Rattle.laws.specs.Put.{put, set-is-put, put-then}
 use Rattle.kinds.specs.Kinds.{Row}
 use Rattle.printed.specs.Rule.{trackLine, trackLines}
-use Rattle.printed.specs.Putting.{Putting}
-use Rattle.printed.proofs.Joined.{putting-then, putting-none, putting-as}
 
 -- ---- a word
 

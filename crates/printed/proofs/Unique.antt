@@ -1,6 +1,5 @@
 -- Two answers that tell the same are the same, so a call's promise leaves one. Assumes nothing.
 use mathlib.Core.Path.{_≡_, refl, ap}
-use Rattle.printed.specs.Rule.{PrintTold, printed, noRoom}
 use Rattle.printed.specs.Answer.{printTold}
 use Rattle.printed.specs.declared.PrintAnswer.{PrintAnswer}
 use Rattle.printed.specs.declared.PrintAnswer.the-variants.{Printed, NoRoom}

@@ -5,12 +5,12 @@ use mathlib.Core.List.{List}
 use Prim.Native.Nat.{ℕ, _≤_}
 use native.Mathlib.Omega.{arith}
 use lib.Dec.{ltb}
-use lib.ListN.{length, drop, length-append}
+use lib.ListN.{length, length-append}
 use Rattle.sheet.specs.Rule.{onto}
 use Rattle.printed.specs.Rule.{PrintTold, printed, noRoom, PrintOutcome, printOutcome, sheetText, mostText, printCall, messageText, fitsMessage, messageCall}
 use Rattle.printed.specs.Answer.{printLeaves}
 use Rattle.printed.specs.declared.PrintAnswer.{PrintAnswer}
-use Rattle.printed.specs.declared.PrintAnswer.the-variants.{Printed, NoRoom}
+use Rattle.printed.specs.declared.PrintAnswer.the-variants.{Printed}
 
 abbrev lengthTold : PrintTold → ℕ
 lengthTold (printed n) = n

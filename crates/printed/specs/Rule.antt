@@ -4,10 +4,10 @@ use Prim.Native.Nat.{ℕ, zero, suc, _+_, _*_, _/_, _%_}
 use Prim.Native.String.{String}
 use Prim.Native.String as Text
 use Prim.Native.Char.{code}
-use mathlib.Core.Bool.{Bool, cond, not, _&&_, _||_}
+use mathlib.Core.Bool.{Bool, cond, not, _&&_}
 use mathlib.Core.List.{List, [], _∷_, _++_, flatMap}
 use lib.Dec.{ltb, leb, eqb}
-use lib.ListN.{length, take, drop, getD, replicate}
+use lib.ListN.{length, take, getD, replicate}
 use lib.IntN.{ℤ, pos, negsuc}
 use Rattle.kinds.specs.Kinds.{Row}
 use Rattle.rounds.specs.Rule.{mostTracks}

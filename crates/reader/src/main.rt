@@ -20,8 +20,7 @@ struct Step {
 }
 
 fn print_help() -> bool {
-    io::write_all(
-        STDOUT_FILENO,
+    write_out(
         b"usage: reader [SHEET]...\n\nSizes each sheet and prints its board: the tracks, the free space and the rounds, then for each\ntrack its number, base size and growth limit; or one line, 'refused NUMBER at PLACE'. With no\nSHEET, or where it is -, the sheet is read from standard input.\n\n  --      only names of sheets follow\n  --help  prints this\n",
     )
 }
@@ -60,6 +59,7 @@ fn answer(sheet: &[u8]) -> bool {
     let made = printed::print_sheet(sheet, &mut text);
     match made {
         PrintAnswer::Printed { length } => write_out(&text[..length]),
+        // Never: as many bytes are lent as any text takes.
         PrintAnswer::NoRoom => false,
     }
 }

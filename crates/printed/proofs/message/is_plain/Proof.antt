@@ -1,6 +1,5 @@
 -- `is_plain`, test by test. Assumes nothing.
 use borrow.Author.Tests.{lt-leb, le-leb, eq-eqb, ne-eqb}
-use borrow.Author.Needs.{needs}
 use Rattle.printed.proofs.message.is_plain.Statement.{statement}
 use Rattle.printed.proofs.message.is_plain.Tie as tie
 

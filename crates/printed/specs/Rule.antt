@@ -25,7 +25,7 @@ word (Text._∷_ c w) = code c ∷ word w
 abbrev pub digit : ℕ → ℕ
 digit d = 48 + d
 
--- decimal digits, the most significant first; a number has no more of them than it counts, so that counting down to 0 ends nothing early
+-- decimal digits, the most significant first; a number above 0 has no more of them than it counts, so that counting down ends nothing early
 unfoldable pub decimalFrom : ℕ → ℕ → List ℕ
 decimalFrom zero n = digit n ∷ []
 decimalFrom (suc most) n = cond (ltb n 10) (digit n ∷ []) (decimalFrom most (n / 10) ++ (digit (n % 10) ∷ []))
@@ -102,7 +102,7 @@ printCall bytes lent =
 
 -- ---- A message of the reader: one line, whatever the name in it
 
--- a byte of a name that stands as it is: no control character, no quote and no backslash
+-- a byte of a name that stands as it is: 32 or above, but no 127, no quote and no backslash
 abbrev pub isPlain : ℕ → Bool
 isPlain b = leb 32 b && (not (eqb b 127) && (not (eqb b 39) && not (eqb b 92)))
 

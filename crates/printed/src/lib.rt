@@ -16,7 +16,7 @@ ghost use Rattle.printed.specs.Answer.{printLeaves};
 pub enum PrintAnswer {
     // The text is the first so many bytes.
     Printed { length: usize },
-    // Fewer bytes were lent than such a text may take; they keep what they hold.
+    // Fewer bytes were lent than such a text may take, or a message's name or words are too long; the lent bytes keep what they hold.
     NoRoom,
 }
 

@@ -1,9 +1,8 @@
 """Builds the program that holds the ported float routines against the Rust they were ported from:
 
-    python3 oracle/floats/build.py [SOURCES] [LIBRARY]
+    python3 oracle/floats/build.py SOURCES [LIBRARY]
 
-SOURCES is the folder of the Rust sources, that of taffy 0.15.1 (default ../shared/docs/src); LIBRARY is the folder of
-libtorrivask.a (default target/staticlib, where `rt staticlib torrivask` writes it). Both count from the repository's root.
+SOURCES is the folder of the Rust sources, that of taffy 0.15.1; LIBRARY is the folder of libtorrivask.a (default target/staticlib, where `rt staticlib torrivask` writes it). Both count from the repository's root.
 
 No text of the Rust stands in this repository. The items named in CUTS are cut out of the sources as they stand, into
 target/oracle-floats/cut.rs, and rust.rs takes that file in when the program is compiled to target/oracle-floats/compare.
@@ -92,7 +91,9 @@ def cut_all(sources):
 
 
 def main():
-    sources = os.path.join(ROOT, sys.argv[1] if len(sys.argv) > 1 else '../shared/docs/src')
+    if len(sys.argv) < 2:
+        sys.exit(__doc__)
+    sources = os.path.join(ROOT, sys.argv[1])
     library = os.path.join(ROOT, sys.argv[2] if len(sys.argv) > 2 else 'target/staticlib')
     cut_file, program = os.path.join(OUT, 'cut.rs'), os.path.join(OUT, 'compare')
     os.makedirs(OUT, exist_ok=True)

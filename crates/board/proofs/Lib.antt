@@ -1,5 +1,3 @@
--- a sheet that could be read, case by case as the code goes
-pub mod SizeSheet
 -- a sheet is never refused with 6
 pub mod SheetNumbers
 -- what reading with rows for every record leaves, and so the board

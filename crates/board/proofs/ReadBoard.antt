@@ -1,30 +1,35 @@
 -- Reading with rows for every record: 6 is never met, and the first rows read are the sheet's. Assumes nothing.
 use mathlib.Core.Path.{_≡_, refl, sym, ap, _∙_}
-use mathlib.Core.List.{List}
+use mathlib.Core.List.{List, map}
 use Prim.Native.Nat.{ℕ, _≤_}
 use native.Mathlib.Omega.{arith}
 use lib.ListN.{length, take}
 use lib.Seq.{length-take-le}
 use borrow.Author.Tests.{le-leb}
-use Rattle.kinds.specs.Kinds.{Row}
-use Rattle.kinds.specs.declared.space.Space.{Space}
+use Rattle.kinds.specs.Kinds.{Row, itemOf}
+use Rattle.sheet_kinds.specs.Kinds.{sheetTrackOf}
+use Rattle.sheet_kinds.specs.declared.space.Space.{Space}
 use Rattle.sheet.specs.Rule.{fine, recordSize, twoAt, tracksAt, itemsAt, Sheet, sheetFault, readFault, readCall}
 use Rattle.records.specs.Answer.{refusalFault}
-use Rattle.sheet.specs.Answer.{readLeaves, enoughRows}
+use Rattle.sheet.specs.Answer.{readLeaves, enoughRows, sheetOf}
 use Rattle.records.specs.declared.refusal.Refusal.{Refusal}
 use Rattle.records.specs.declared.refusal.Refusal.the-variants as sheet
 use Rattle.sheet.specs.declared.reading.ReadAnswer.{ReadAnswer}
 use Rattle.sheet.specs.declared.reading.ReadAnswer.the-variants as read
 use Rattle.records.proofs.Firsts.{first-fine, first-where}
+use Rattle.rows.proofs.KindRows.{space-of-row}
 use Rattle.sheet.proofs.Accepted.{accepted}
 use Rattle.sheet.proofs.ReadCall.{counts-few}
 use Rattle.sheet.proofs.Told.{SheetRead, read-fault-of-refused, sheet-of-read}
-use Rattle.board.specs.Rule.{BoardOutcome, sizeFault, boardAs, boardCall}
-use Rattle.board.specs.Answer.{boardLeaves, own, ownAnswer}
+use Rattle.layout.specs.Answer.{layoutTold, layoutLeaves}
+use Rattle.layout.specs.Rule.{layoutCall}
+use Rattle.layout.specs.declared.LayoutAnswer.{LayoutAnswer}
+use Rattle.board.specs.Rule.{BoardOutcome, BoardTold, boardOutcome, sheetLayout, boardCall}
+use Rattle.board.specs.Answer.{boardTold, boardLeaves, own, ownAnswer}
+use Rattle.board.specs.declared.BoardAnswer.{BoardAnswer}
 use Rattle.board.specs.declared.refusal.Refusal.the-variants as refusals
 use Rattle.board.specs.declared.BoardAnswer.the-variants as answer
 use Rattle.board.proofs.SheetNumbers.{faultNumber, sheet-fault-le}
-use Rattle.board.proofs.SizeSheet.{sheetBoard}
 
 -- ---- refusals
 
@@ -86,9 +91,12 @@ module _ (bytes : List ℕ) (tracks items : List Row) (enough : readFault bytes 
       let few = counts-few bytes tracks items a ts is space n m e is-sheet in
       record { rows = rows; fewTracks = rw (length-take-le n ts (rows .trackRows)) (few .0); fewItems = rw (length-take-le m is (rows .itemRows)) (few .1) }
 
-  -- and sized
-  pub board-of-sheet : (space : Space) (n m : ℕ) → BoardRead space n m → (places : List Row) (left : BoardOutcome) → left ≡ sheetBoard space (take n ts) (take m is) places → left ≡ boardCall bytes places
+  -- and laid out
+  pub board-of-sheet : (space : Space) (n m : ℕ) → BoardRead space n m → (places : List Row) (laid : LayoutAnswer) (after : List Row)
+      → layoutLeaves laid after ≡ layoutCall space (map sheetTrackOf (take n ts)) (map itemOf (take m is)) places
+      → (a : BoardAnswer) → boardTold a ≡ layoutTold laid → boardLeaves a after ≡ boardCall bytes places
   unfolding boardCall
-  board-of-sheet space n m ok places left b =
+  board-of-sheet space n m ok places laid after l a t =
       let f : sheetFault bytes ≡ fine = sym enough ∙ ok .rows .isFine in
-      rw f (b ∙ ap (λ (sheet : Sheet). boardAs (sizeFault sheet places) sheet places) (ok .rows .isSheet))
+      let same : layoutCall space (map sheetTrackOf (take n ts)) (map itemOf (take m is)) places ≡ sheetLayout (sheetOf space (take n ts) (take m is)) places = rw (space-of-row space) in
+      rw f (ap (λ (told : BoardTold). boardOutcome told after) t ∙ l ∙ same ∙ ap (λ (sheet : Sheet). sheetLayout sheet places) (ok .rows .isSheet))

@@ -4,14 +4,19 @@ use mathlib.Core.List.{List, map}
 use Prim.Native.Nat.{ℕ, _+_, _≤_}
 use lib.ListN.{length, length-map}
 use Rattle.rounds.specs.Rule.{mostTracks}
-use Rattle.kinds.specs.Kinds.{Row, spaceOf, trackOf, itemOf}
+use Rattle.kinds.specs.Kinds.{Row, itemOf}
+use Rattle.kinds.specs.declared.item.Item.{Item}
+use Rattle.sheet_kinds.specs.Kinds.{spaceOf, sheetTrackOf}
+use Rattle.sheet_kinds.specs.Rule.{expansion, resolved}
+use Rattle.sheet_kinds.specs.declared.space.Space.{Space}
+use Rattle.sheet_kinds.specs.declared.track.SheetTrack.{SheetTrack}
 use Rattle.rows.proofs.Stands.{length-rowsAt}
-use Rattle.records.proofs.Firsts.{fine-both}
 use Rattle.sheet.specs.Rule.{Fault, fine, fault, trackRecord, twoAt, tracksAt, sheetAt, sheetFault}
 use Rattle.sheet.proofs.Accepted.{accepted}
 use Rattle.sizing.proofs.Counted.{length-size}
 use Rattle.sizing.specs.declared.free.Free.{Free}
-use Rattle.board.specs.Rule.{BoardTold, board, refused, BoardOutcome, boardFault, sizeSheet, boardAs, boardCall}
+use Rattle.layout.specs.Rule.{layoutFault, layoutAs, layoutCall}
+use Rattle.board.specs.Rule.{BoardTold, board, refused, BoardOutcome, boardAs, boardCall}
 use Rattle.board.specs.Answer.{boardTold, boardLeaves}
 use Rattle.board.specs.declared.BoardAnswer.{BoardAnswer}
 use Rattle.board.specs.declared.BoardAnswer.the-variants as answer
@@ -20,24 +25,28 @@ abbrev pub TracksFew : BoardTold → Type 0
 TracksFew (board tracks free rounds) = tracks ≤ mostTracks
 TracksFew (refused number place) = Unit {0}
 
-module _ (bytes : List ℕ) (places : List Row) where
-  sized-few : sheetFault bytes ≡ fine → length (sizeSheet (sheetAt bytes) .places) ≤ mostTracks
-  unfolding sheetAt
-  sized-few e =
-      rw (
-        length-size (spaceOf (sheetAt bytes .space)) (map trackOf (sheetAt bytes .tracks)) (map itemOf (sheetAt bytes .items)),
-        length-map (sheetAt bytes .tracks) trackOf,
-        length-rowsAt trackRecord bytes (twoAt bytes tracksAt) (tracksAt + 2),
-      )
-      (accepted bytes e .fewTracks)
+-- a layout tells as many tracks as it was handed
+module _ (s : Space) (ts : List SheetTrack) (is : List Item) (places : List Row) (few : length ts ≤ mostTracks) where
+  layout-as-few : (f : Fault) → TracksFew (layoutAs f s ts is places .told)
+  layout-as-few fine = rw (length-size (s .constraint) (expansion s) (s .stretch) (map resolved ts) is, length-map ts resolved) few
+  layout-as-few (fault number place) = tt
 
-  told-few : (f : Fault) → boardFault bytes places ≡ f → TracksFew (boardAs f (sheetAt bytes) places .told)
-  told-few fine e = sized-few (fine-both (sheetFault bytes) _ e .0)
+  layout-few : TracksFew (layoutCall s ts is places .told)
+  unfolding layoutCall
+  layout-few = layout-as-few (layoutFault s ts is places)
+
+module _ (bytes : List ℕ) (places : List Row) where
+  sheet-few : sheetFault bytes ≡ fine → length (map sheetTrackOf (sheetAt bytes .tracks)) ≤ mostTracks
+  unfolding sheetAt
+  sheet-few e = rw (length-map (sheetAt bytes .tracks) sheetTrackOf, length-rowsAt trackRecord bytes (twoAt bytes tracksAt) (tracksAt + 2)) (accepted bytes e .fewTracks)
+
+  told-few : (f : Fault) → sheetFault bytes ≡ f → TracksFew (boardAs f (sheetAt bytes) places .told)
+  told-few fine e = layout-few (spaceOf (sheetAt bytes .space)) (map sheetTrackOf (sheetAt bytes .tracks)) (map itemOf (sheetAt bytes .items)) places (sheet-few e)
   told-few (fault number place) e = tt
 
   call-few : TracksFew (boardCall bytes places .told)
   unfolding boardCall
-  call-few = told-few (boardFault bytes places) refl
+  call-few = told-few (sheetFault bytes) refl
 
   -- so does an answer that keeps the promise
   pub tracks-few : (a : BoardAnswer) (left : List Row) (tracks : ℕ) (free : Free) (rounds : ℕ)

@@ -13,7 +13,8 @@ use Rattle.sizing.specs.declared.free.Free.the-variants as free
 use Rattle.board.specs.Rule.{BoardTold, board, refused}
 use Rattle.board.specs.Answer.{numberOf, placeOf, boardTold, own, ownAnswer}
 use Rattle.board.specs.declared.refusal.Refusal.{Refusal}
-use Rattle.board.specs.declared.refusal.Refusal.the-variants.{Sheet, TooFewPlaces, Record}
+use Rattle.layout.specs.declared.refusal.Refusal.the-variants.{TooFewPlaces, Record}
+use Rattle.board.specs.declared.refusal.Refusal.the-variants.{Sheet, Layout}
 use Rattle.board.specs.declared.BoardAnswer.{BoardAnswer}
 use Rattle.board.specs.declared.BoardAnswer.the-variants as answer
 
@@ -26,11 +27,11 @@ refusalOf number place =
     (cond (eqb number 3) (Sheet (sheet.Count place))
     (cond (eqb number 4) (Sheet (sheet.Tag place))
     (cond (eqb number 5) (Sheet (sheet.StrayNumber place))
-    (cond (eqb number 6) TooFewPlaces
-    (cond (eqb number 7) (Record (checks.NumberOver place))
-    (cond (eqb number 8) (Record (checks.OutsideTracks place))
-    (cond (eqb number 9) (Record (checks.ContributionMissing place))
-    (cond (eqb number 10) (Record (checks.RowFalls place)) (Record (checks.CrossesFr place)))))))))))
+    (cond (eqb number 6) (Layout TooFewPlaces)
+    (cond (eqb number 7) (Layout (Record (checks.NumberOver place)))
+    (cond (eqb number 8) (Layout (Record (checks.OutsideTracks place)))
+    (cond (eqb number 9) (Layout (Record (checks.ContributionMissing place)))
+    (cond (eqb number 10) (Layout (Record (checks.RowFalls place))) (Layout (Record (checks.CrossesFr place))))))))))))
 
 refusal-again : (r : Refusal) → refusalOf (numberOf r) (placeOf r) ≡ own r
 unfolding refusalOf
@@ -40,12 +41,12 @@ refusal-again (Sheet (sheet.Count place)) = refl
 refusal-again (Sheet (sheet.Tag place)) = refl
 refusal-again (Sheet (sheet.StrayNumber place)) = refl
 refusal-again (Sheet sheet.TooFewPlaces) = refl
-refusal-again TooFewPlaces = refl
-refusal-again (Record (checks.NumberOver place)) = refl
-refusal-again (Record (checks.OutsideTracks place)) = refl
-refusal-again (Record (checks.ContributionMissing place)) = refl
-refusal-again (Record (checks.RowFalls place)) = refl
-refusal-again (Record (checks.CrossesFr place)) = refl
+refusal-again (Layout TooFewPlaces) = refl
+refusal-again (Layout (Record (checks.NumberOver place))) = refl
+refusal-again (Layout (Record (checks.OutsideTracks place))) = refl
+refusal-again (Layout (Record (checks.ContributionMissing place))) = refl
+refusal-again (Layout (Record (checks.RowFalls place))) = refl
+refusal-again (Layout (Record (checks.CrossesFr place))) = refl
 
 -- ---- an answer, from what it tells
 

@@ -5,23 +5,22 @@ use mathlib.Core.List.{List}
 use Rattle.kinds.specs.Kinds.{Row}
 use Rattle.records.specs.Answer as records
 use Rattle.records.specs.declared.refusal.Refusal.the-variants as refusals
-use Rattle.checks.specs.Answer as checks
 use Rattle.sizing.specs.Size.{freeTold}
+use Rattle.layout.specs.Answer as layout
+use Rattle.layout.specs.declared.refusal.Refusal.the-variants.{TooFewPlaces}
 use Rattle.board.specs.Rule.{BoardTold, board, refused, BoardOutcome, boardOutcome}
 use Rattle.board.specs.declared.refusal.Refusal.{Refusal}
-use Rattle.board.specs.declared.refusal.Refusal.the-variants.{Sheet, TooFewPlaces, Record}
+use Rattle.board.specs.declared.refusal.Refusal.the-variants.{Sheet, Layout}
 use Rattle.board.specs.declared.BoardAnswer.{BoardAnswer}
 use Rattle.board.specs.declared.BoardAnswer.the-variants as answer
 
 abbrev pub numberOf : Refusal → ℕ
 numberOf (Sheet refusal) = records.numberOf refusal
-numberOf TooFewPlaces = 6
-numberOf (Record refusal) = checks.numberOf refusal
+numberOf (Layout refusal) = layout.numberOf refusal
 
 abbrev pub placeOf : Refusal → ℕ
 placeOf (Sheet refusal) = records.placeOf refusal
-placeOf TooFewPlaces = 0
-placeOf (Record refusal) = checks.placeOf refusal
+placeOf (Layout refusal) = layout.placeOf refusal
 
 abbrev pub boardTold : BoardAnswer → BoardTold
 boardTold (answer.Board tracks free rounds) = board tracks (freeTold free) rounds
@@ -38,9 +37,8 @@ own (Sheet (refusals.BytesOver place)) = Sheet (refusals.BytesOver place)
 own (Sheet (refusals.Count place)) = Sheet (refusals.Count place)
 own (Sheet (refusals.Tag place)) = Sheet (refusals.Tag place)
 own (Sheet (refusals.StrayNumber place)) = Sheet (refusals.StrayNumber place)
-own (Sheet refusals.TooFewPlaces) = TooFewPlaces
-own TooFewPlaces = TooFewPlaces
-own (Record refusal) = Record refusal
+own (Sheet refusals.TooFewPlaces) = Layout TooFewPlaces
+own (Layout refusal) = Layout refusal
 
 abbrev pub ownAnswer : BoardAnswer → BoardAnswer
 ownAnswer (answer.Board tracks room rounds) = answer.Board tracks room rounds

@@ -1,23 +1,21 @@
 // The board: a sheet's bytes and lent places in, sizes or a refusal out (specs/Rule.antt is the rule, docs/PROMISES.md the promise
-// in words). No place is written before every refusal has been ruled out.
+// in words). A sheet is read, and what it says is laid out.
 mod refusal;
 
-use checks::Fault;
-use checks::record_fault;
 use kinds::Item;
-use kinds::Space;
 use kinds::Track;
+use layout::LayoutAnswer;
+use layout::lay_out;
 pub use refusal::Refusal;
 use sheet::ReadAnswer;
 pub use sizing::Free;
-use sizing::size;
 ghost use mathlib.Core.Path.{_≡_};
 ghost use Prim.Native.Nat.{_≤_};
 ghost use lib.ListN.{length};
+ghost use Rattle.layout.specs.Answer.{layoutTold};
 ghost use Rattle.sheet.specs.Rule.{sheetFault, readFault};
-ghost use Rattle.sheet.specs.Answer.{sheetOf};
-ghost use Rattle.board.specs.Rule.{sizeFault, boardAs, boardCall};
-ghost use Rattle.board.specs.Answer.{boardLeaves, ownAnswer};
+ghost use Rattle.board.specs.Rule.{boardCall};
+ghost use Rattle.board.specs.Answer.{boardTold, boardLeaves, ownAnswer};
 
 pub enum BoardAnswer {
     Board {
@@ -82,33 +80,27 @@ fn board_with(
             space,
             tracks: track_count,
             items: item_count,
-        } => size_sheet(space, &tracks[..track_count], &items[..item_count], places),
+        } => {
+            let laid_out = lay_out(space, &tracks[..track_count], &items[..item_count], places);
+            of_layout(laid_out)
+        }
     }
 }
 
-// 6, then 7 to 11, then the sizes.
-fn size_sheet(
-    space: Space,
-    tracks: &[[u32; 4]],
-    items: &[[u32; 7]],
-    places: &mut [[u32; 2]],
-) -> BoardAnswer
-    requires { ⌜ (length (now tracks) ≤ 256) × (length (now items) ≤ 1024) ⌝ }
-    ensures { λ r. ⌜ (boardLeaves r (now (places .exit)) ≡ boardAs (sizeFault (sheetOf space (now (tracks .entry)) (now (items .entry))) (now (places .entry))) (sheetOf space (now (tracks .entry)) (now (items .entry))) (now (places .entry))) × (ownAnswer r ≡ r) ⌝ }
+// What a layout tells, as the board's own answer.
+fn of_layout(laid_out: LayoutAnswer) -> BoardAnswer
+    ensures { λ r. ⌜ (boardTold r ≡ layoutTold «laid_out») × (ownAnswer r ≡ r) ⌝ }
 {
-    let count = tracks.len();
-    if places.len() < count {
-        return BoardAnswer::Refused(Refusal::TooFewPlaces);
-    }
-    let fault = record_fault(space, tracks, items);
-    if let Fault::Found(refusal) = fault {
-        return BoardAnswer::Refused(Refusal::Record(refusal));
-    }
-    let sizes = size(space, tracks, items, &mut places[..count]);
-    let free = sizes.free;
-    BoardAnswer::Board {
-        tracks: count,
-        free,
-        rounds: sizes.rounds,
+    match laid_out {
+        LayoutAnswer::Board {
+            tracks,
+            free,
+            rounds,
+        } => BoardAnswer::Board {
+            tracks,
+            free,
+            rounds,
+        },
+        LayoutAnswer::Refused(refusal) => BoardAnswer::Refused(Refusal::Layout(refusal)),
     }
 }

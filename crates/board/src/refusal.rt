@@ -1,14 +1,12 @@
-// What refuses a board: the sheet, the lent places, or a record; with the paper's number and place of each.
+// What refuses a board: the sheet, or the layout of what it says; with the paper's number and place of each.
 ghost use mathlib.Core.Path.{_≡_};
 ghost use Rattle.board.specs.Answer.{numberOf, placeOf};
 
 pub enum Refusal {
     // 1 to 5.
     Sheet(sheet::Refusal),
-    // 6: fewer places than tracks.
-    TooFewPlaces,
-    // 7 to 11.
-    Record(checks::Refusal),
+    // 6 to 11.
+    Layout(layout::Refusal),
 }
 
 impl Refusal {
@@ -17,8 +15,7 @@ impl Refusal {
     {
         match self {
             Refusal::Sheet(refusal) => refusal.number(),
-            Refusal::TooFewPlaces => 6,
-            Refusal::Record(refusal) => refusal.number(),
+            Refusal::Layout(refusal) => refusal.number(),
         }
     }
 
@@ -27,8 +24,7 @@ impl Refusal {
     {
         match self {
             Refusal::Sheet(refusal) => refusal.place(),
-            Refusal::TooFewPlaces => 0,
-            Refusal::Record(refusal) => refusal.place(),
+            Refusal::Layout(refusal) => refusal.place(),
         }
     }
 }

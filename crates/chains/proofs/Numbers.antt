@@ -13,8 +13,8 @@ use Rattle.kinds.specs.declared.amount.Amount.the-variants.{Absent, Given}
 use Rattle.kinds.specs.declared.track.Track.{Track}
 use Rattle.kinds.specs.declared.item.ContributionKind.the-variants as kind
 use Rattle.kinds.specs.declared.item.Item.{Item}
-use Rattle.checks.specs.Rule.{isMeasured, crossesFr, isAbsent, lacksContribution}
-use Rattle.checks.specs.Sound.{ItemFits}
+use Rattle.spanned.specs.Rule.{isMeasured, crossesFr, isAbsent, lacksContribution}
+use Rattle.spanned.specs.Sound.{ItemFits}
 use Rattle.lines.specs.declared.measured.Measured.{Measured}
 use Rattle.lines.specs.Rule.{completeOf, complete}
 use Rattle.chains.specs.Batches.{frBatch, batchOf}

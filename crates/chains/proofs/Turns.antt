@@ -16,7 +16,7 @@ use Rattle.laws.specs.Walk.{next}
 use Rattle.kinds.specs.Kinds.{Row, itemOf}
 use Rattle.kinds.specs.declared.track.Track.{Track}
 use Rattle.kinds.specs.declared.item.Item.{Item}
-use Rattle.checks.specs.Sound.{ItemFits}
+use Rattle.spanned.specs.Sound.{ItemFits}
 use Rattle.lines.specs.Chains.{Rising, chainFrom, chain}
 use Rattle.lines.proofs.Chains.{chain-end, chain-next}
 use Rattle.chains.specs.Batches.{batchOf, inBatch, chainItems, Gathered}

@@ -10,7 +10,7 @@ use Rattle.laws.specs.Lists.{keep}
 use Rattle.kinds.specs.Kinds.{Row, itemOf}
 use Rattle.kinds.specs.declared.track.Track.{Track}
 use Rattle.kinds.specs.declared.item.Item.{Item}
-use Rattle.checks.specs.Rule.{isMeasured, crossesFr, lacksContribution}
+use Rattle.spanned.specs.Rule.{isMeasured, crossesFr, lacksContribution}
 use Rattle.lines.specs.Chains.{Rising, chain}
 
 -- of the items on an fr track, past every span of a board

@@ -10,7 +10,7 @@ ghost use lib.ListN.{length, replicate};
 ghost use Rattle.laws.specs.Lists.{All};
 ghost use Rattle.rounds.specs.Rule.{mostTracks};
 ghost use Rattle.kinds.specs.Kinds.{trackOf, itemOf};
-ghost use Rattle.checks.specs.Sound.{ItemFits};
+ghost use Rattle.spanned.specs.Sound.{ItemFits};
 ghost use Rattle.chains.specs.Batches.{batchOf, Gathered};
 
 // The batches: none for items without part, one for each span, and the last.
@@ -37,10 +37,10 @@ fn batch_of(item: Item, tracks: &[[u32; 4]]) -> usize
     if let Part::LeftOut = part {
         return 0;
     }
-    if !checks::is_measured(tracks, item) {
+    if !spanned::is_measured(tracks, item) {
         return 0;
     }
-    if checks::crosses_fr(tracks, item) {
+    if spanned::crosses_fr(tracks, item) {
         return LAST;
     }
     item.span as usize

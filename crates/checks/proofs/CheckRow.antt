@@ -1,10 +1,10 @@
--- The row of checks as the code makes it: 7, then 8, and only where both find nothing the others. Assumes nothing.
+-- The row of checks as the code makes it: 7, then 8, and only where each finds nothing the others. Assumes nothing.
 use mathlib.Core.Path.{_≡_}
 use mathlib.Core.Bool.{Bool, true, false, cond}
 use Prim.Native.Nat.{ℕ}
-use mathlib.Core.List.{[], _∷_}
+use mathlib.Core.List.{List, [], _∷_}
 use Rattle.records.specs.Rule.{Fault, fine, fault, first}
-use Rattle.records.proofs.Firsts.{first-fine, first-assoc}
+use Rattle.records.proofs.Firsts.{first-fine}
 use Rattle.checks.specs.Rule.{firstOf}
 
 -- the first of two, each known by the rule
@@ -19,14 +19,17 @@ module _ (number place : ℕ) {b : Bool} (rest : Fault) where
   pub passed-before : {x : Fault} → b ≡ false → x ≡ rest → x ≡ first (cond b (fault number place) fine) rest
   passed-before e p = rw e p
 
-module _ (a b c d e : Fault) where
-  abbrev pub inOrder : Fault
-  inOrder = firstOf (a ∷ b ∷ c ∷ d ∷ e ∷ [])
-
-  pub found-early : {x : Fault} {number place : ℕ} → x ≡ fault number place → x ≡ first a b → x ≡ inOrder
+-- a check, and those behind it: the code returned what the first found, or went on
+module _ (a : Fault) (rest : List Fault) where
+  pub found-first : {x : Fault} {number place : ℕ} → x ≡ fault number place → x ≡ a → x ≡ firstOf (a ∷ rest)
   unfolding firstOf
-  found-early f p = rw (← first-assoc a b (first c (first d (first e fine))), ← p, f)
+  found-first f p = rw (← p, f)
 
-  pub fine-early : {x : Fault} → fine ≡ first a b → x ≡ first c (first d e) → x ≡ inOrder
+  pub next-of-fine : {x : Fault} → fine ≡ a → x ≡ firstOf rest → x ≡ firstOf (a ∷ rest)
   unfolding firstOf
-  fine-early p q = rw (← first-assoc a b (first c (first d (first e fine))), ← p, first-fine) q
+  next-of-fine p q = rw (← p) q
+
+-- the last three
+pub first-three : (a b c : Fault) → first a (first b c) ≡ firstOf (a ∷ b ∷ c ∷ [])
+unfolding firstOf
+first-three a b c = rw (first-fine c)

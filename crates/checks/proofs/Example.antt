@@ -3,14 +3,15 @@ use mathlib.Core.Path.{_≡_, refl}
 use Prim.Native.Nat.{ℕ}
 use mathlib.Core.List.{List, [], _∷_}
 use Rattle.laws.specs.Lists.{some}
-use Rattle.kinds.specs.Kinds.{space, track, item, contribution}
+use Rattle.kinds.specs.Kinds.{item, contribution}
+use Rattle.sheet_kinds.specs.Kinds.{space, sheetTrack}
 use Rattle.kinds.specs.declared.amount.Amount.{Amount}
 use Rattle.kinds.specs.declared.amount.Amount.the-variants.{Absent, Given}
-use Rattle.kinds.specs.declared.space.Constraint.the-variants as constraint
-use Rattle.kinds.specs.declared.space.Space.{Space}
-use Rattle.kinds.specs.declared.track.Minimum.the-variants as minimum
-use Rattle.kinds.specs.declared.track.Maximum.the-variants as maximum
-use Rattle.kinds.specs.declared.track.Track.{Track}
+use Rattle.kinds.specs.declared.constraint.Constraint.the-variants as constraint
+use Rattle.sheet_kinds.specs.declared.space.Space.{Space}
+use Rattle.sheet_kinds.specs.declared.track.SheetMinimum.the-variants as minimum
+use Rattle.sheet_kinds.specs.declared.track.SheetMaximum.the-variants as maximum
+use Rattle.sheet_kinds.specs.declared.track.SheetTrack.{SheetTrack}
 use Rattle.kinds.specs.declared.item.Item.{Item}
 use Rattle.records.specs.Rule.{Fault, fine, fault}
 use Rattle.checks.specs.Rule.{lowest, firstOf, recordFault}
@@ -19,23 +20,23 @@ use mathlib.Core.Bool.{false}
 abbrev hundred : Space
 hundred = space (constraint.Definite 100) (Given 100) false
 
-abbrev auto : Track
-auto = track minimum.Auto maximum.Auto
+abbrev auto : SheetTrack
+auto = sheetTrack minimum.Auto maximum.Auto
 
-abbrev fixedTo : ℕ → Track
-fixedTo n = track (minimum.Fixed n) (maximum.Fixed n)
+abbrev fixedTo : ℕ → SheetTrack
+fixedTo n = sheetTrack (minimum.Fixed n) (maximum.Fixed n)
 
-abbrev fr : ℕ → Track
-fr factor = track minimum.Auto (maximum.Fr factor)
+abbrev fr : ℕ → SheetTrack
+fr factor = sheetTrack minimum.Auto (maximum.Fr factor)
 
 abbrev itemOn : ℕ → ℕ → Amount → Amount → Amount → Item
 itemOn start span a b c = item start span (contribution a ∷ contribution b ∷ contribution c ∷ [])
 
-abbrev check : List Track → Item → Fault
+abbrev check : List SheetTrack → Item → Fault
 check ts i = recordFault hundred ts (i ∷ [])
 
 -- W12
-pub minmax-auto-zero-fine : check (track minimum.Auto (maximum.Fixed 0) ∷ []) (itemOn 0 1 (Given 30) (Given 30) (Given 30)) ≡ fine
+pub minmax-auto-zero-fine : check (sheetTrack minimum.Auto (maximum.Fixed 0) ∷ []) (itemOn 0 1 (Given 30) (Given 30) (Given 30)) ≡ fine
 unfolding recordFault firstOf lowest some
 minmax-auto-zero-fine = refl
 

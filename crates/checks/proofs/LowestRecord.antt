@@ -1,15 +1,16 @@
 -- `lowest` tells the lowest record at fault, and none where there is none: it is found just where every test fails, or where
 -- a test passes and each one before it fails. Assumes nothing.
-use mathlib.Core.Path.{_≡_, refl, ap, _∙_}
+use mathlib.Core.Path.{_≡_, refl, sym, ap, _∙_}
 use mathlib.Core.Bool.{Bool, true, false, cond}
 use Prim.Native.Nat.{ℕ, zero, suc, _+_, _<_, suc-le-suc}
 use native.Mathlib.Nat.{le-of-suc-le-suc, not-suc-le-zero}
 use native.Mathlib.Omega.{arith}
-use mathlib.Core.List.{List, [], _∷_}
-use lib.ListN.{length, getD}
+use mathlib.Core.List.{List, [], _∷_, map}
+use lib.ListN.{length, getD, length-map}
 use Rattle.laws.specs.Lists.{All}
 use Rattle.records.specs.Rule.{Fault, fine, fault}
-use Rattle.checks.specs.Rule.{lowest}
+use Rattle.kinds.specs.declared.item.Item.{Item}
+use Rattle.checks.specs.Rule.{lowest, lowestItem}
 
 -- a test that passed is a fault, so none passed
 pub false-of-fine : (b : Bool) (number place : ℕ) (f : Fault) → cond b (fault number place) f ≡ fine → (b ≡ false) × (f ≡ fine)
@@ -36,3 +37,8 @@ module _ {A : Type 0} (number : ℕ) (bad : A → Bool) where
   fault-of-first place (x ∷ xs) (suc k) d h e before =
       let z : place + 1 + k ≡ place + suc k = omega arith in
       rw (before 0 (omega arith)) (fault-of-first (place + 1) xs k d (le-of-suc-le-suc h) e (λ (j : ℕ) (l : j < k). before (suc j) (suc-le-suc l)) ∙ ap (fault number) z)
+
+-- an item's place goes by how many tracks there are, whatever is read of them
+pub lowest-item-of : {R A B : Type 0} (number : ℕ) (bad : Item → Bool) (f : R → A) (g : R → B) (rows : List R) (is : List Item)
+    → lowestItem number bad (map f rows) is ≡ lowestItem number bad (map g rows) is
+lowest-item-of number bad f g rows is = ap (λ (n : ℕ). lowest number bad (1 + n) is) (length-map rows f ∙ sym (length-map rows g))

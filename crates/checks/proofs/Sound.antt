@@ -1,32 +1,35 @@
--- A board in which no record is at fault is sound. Assumes nothing.
+-- A board in which no record is at fault is sound: its space fits, and so do the tracks that the sizing reads and the items. Assumes
+-- nothing.
 use mathlib.Core.Path.{_≡_, refl}
 use mathlib.Core.Bool.{Bool, true, false, _||_}
 use Prim.Native.Nat.{ℕ, _+_, _≤_}
 use native.Mathlib.Omega.{arith}
-use mathlib.Core.List.{List}
+use mathlib.Core.List.{List, [], _∷_, map}
 use lib.Dec.{ltb, eqb}
 use lib.ListN.{length}
 use borrow.Author.Tests.{ltb-false, eqb-false}
-use Rattle.laws.specs.Lists.{some}
+use Rattle.laws.specs.Lists.{All, some}
 use Rattle.rounds.specs.Rule.{mostDots}
 use Rattle.kinds.specs.Kinds.{amountNumber, constraintNumber, minimumNumber, maximumNumber, amountAt}
 use Rattle.kinds.specs.declared.amount.Amount.{Amount}
 use Rattle.kinds.specs.declared.amount.Amount.the-variants.{Absent, Given}
-use Rattle.kinds.specs.declared.space.Constraint.{Constraint}
-use Rattle.kinds.specs.declared.space.Constraint.the-variants as constraint
-use Rattle.kinds.specs.declared.space.Space.{Space}
+use Rattle.kinds.specs.declared.constraint.Constraint.{Constraint}
+use Rattle.kinds.specs.declared.constraint.Constraint.the-variants as constraint
+use Rattle.sheet_kinds.specs.declared.space.Space.{Space}
 use Rattle.kinds.specs.declared.track.Minimum.{Minimum}
 use Rattle.kinds.specs.declared.track.Minimum.the-variants as minimum
 use Rattle.kinds.specs.declared.track.Maximum.{Maximum}
 use Rattle.kinds.specs.declared.track.Maximum.the-variants as maximum
-use Rattle.kinds.specs.declared.track.Track.{Track}
+use Rattle.sheet_kinds.specs.Rule.{resolved}
+use Rattle.sheet_kinds.specs.declared.track.SheetTrack.{SheetTrack}
 use Rattle.kinds.specs.declared.item.ContributionKind.{ContributionKind}
 use Rattle.kinds.specs.declared.item.ContributionKind.the-variants as kind
 use Rattle.kinds.specs.declared.item.Item.{Item}
 use Rattle.records.specs.Rule.{fine, fault, first}
 use Rattle.records.proofs.Firsts.{fine-both}
-use Rattle.checks.specs.Rule.{mostSize, mostContribution, amountOver, constraintOver, minimumOver, maximumOver, spaceOver, trackOver, itemOver, isOutside, lowestSpace, lowestTrack, lowestItem, firstOf, recordFault}
-use Rattle.checks.specs.Sound.{mostOf, SpaceFits, TrackFits, ItemFits, Sound}
+use Rattle.checks.specs.Rule.{mostSize, mostContribution, amountOver, constraintOver, minimumOver, maximumOver, spaceOver, trackOver, itemOver, isOutside, lowestSpace, lowestTrack, lowestItem, overFault, firstOf, recordFault}
+use Rattle.checks.specs.Fits.{SpaceFits}
+use Rattle.spanned.specs.Sound.{mostOf, TrackFits, ItemFits, Sound}
 use Rattle.checks.proofs.LowestRecord.{false-of-fine, none-of-fine}
 use Rattle.laws.specs.Alls.{all-map, all-both}
 
@@ -66,10 +69,10 @@ space-fits s e =
     let f = neither (constraintOver (s .constraint)) (amountOver mostDots (s .inner)) e in
     (constraint-le (s .constraint) (f .0), amount-le mostDots (s .inner) (f .1))
 
-track-fits : (t : Track) → trackOver t ≡ false → TrackFits t
+track-fits : (t : SheetTrack) → trackOver t ≡ false → TrackFits (resolved t)
 track-fits t e =
-    let f = neither (minimumOver (t .minimum)) (maximumOver (t .maximum)) e in
-    (minimum-le (t .minimum) (f .0), maximum-le (t .maximum) (f .1))
+    let f = neither (minimumOver (resolved t .minimum)) (maximumOver (resolved t .maximum)) e in
+    (minimum-le (resolved t .minimum) (f .0), maximum-le (resolved t .maximum) (f .1))
 
 contribution-le : (i : Item) → itemOver i ≡ false → (k : ContributionKind) → amountNumber (amountAt i k) ≤ mostContribution
 unfolding some
@@ -97,19 +100,34 @@ item-fits n i e =
 
 -- ---- the board
 
-pub sound-of-fine : (s : Space) (ts : List Track) (is : List Item) → recordFault s ts is ≡ fine → Sound s ts is
-unfolding recordFault firstOf
-sound-of-fine s ts is e =
-    let checks = fine-both (first (lowestSpace 7 spaceOver s) (first (lowestTrack 7 trackOver ts) (lowestItem 7 itemOver ts is))) _ e in
-    let over = fine-both (lowestSpace 7 spaceOver s) _ (checks .0) in
-    let rows = fine-both (lowestTrack 7 trackOver ts) _ (over .1) in
-    let outside = fine-both (lowestItem 8 (isOutside (length ts)) ts is) _ (checks .1) .0 in
-    let overNone = none-of-fine 7 itemOver (1 + length ts) is (rows .1) in
-    let outsideNone = none-of-fine 8 (isOutside (length ts)) (1 + length ts) is outside in
-    record {
-      space = space-fits s (false-of-fine (spaceOver s) 7 0 fine (over .0) .0);
-      tracks = all-map (λ (t : Track). trackOver t ≡ false) TrackFits track-fits ts (none-of-fine 7 trackOver 1 ts (rows .0));
-      items =
-          all-map (λ (i : Item). (itemOver i ≡ false) × (isOutside (length ts) i ≡ false)) (ItemFits (length ts)) (item-fits (length ts)) is
-          (all-both (λ (i : Item). itemOver i ≡ false) (λ (i : Item). isOutside (length ts) i ≡ false) is overNone outsideNone);
-    }
+-- what each track has, each resolved track has
+all-resolved : (ts : List SheetTrack) → All (λ (t : SheetTrack). trackOver t ≡ false) ts → All TrackFits (map resolved ts)
+unfolding All
+all-resolved [] a = tt
+all-resolved (t ∷ ts) a = (track-fits t (a .0), all-resolved ts (a .1))
+
+module _ (s : Space) (ts : List SheetTrack) (is : List Item) (e : recordFault s ts is ≡ fine) where
+  -- 7 found nothing, and 8 to 11 found nothing
+  over-none : (lowestSpace 7 spaceOver s ≡ fine) × (first (lowestTrack 7 trackOver ts) (lowestItem 7 itemOver ts is) ≡ fine)
+  unfolding recordFault firstOf
+  over-none = fine-both (lowestSpace 7 spaceOver s) _ (fine-both (overFault s ts is) _ e .0)
+
+  outside-none : lowestItem 8 (isOutside (length (map resolved ts))) (map resolved ts) is ≡ fine
+  unfolding recordFault firstOf
+  outside-none = fine-both (lowestItem 8 (isOutside (length (map resolved ts))) (map resolved ts) is) _ (fine-both (overFault s ts is) _ e .1) .0
+
+  pub space-of-fine : SpaceFits s
+  space-of-fine = space-fits s (false-of-fine (spaceOver s) 7 0 fine (over-none .0) .0)
+
+  pub sound-of-fine : Sound (map resolved ts) is
+  sound-of-fine =
+      let rows = fine-both (lowestTrack 7 trackOver ts) _ (over-none .1) in
+      let count = length (map resolved ts) in
+      let overNone = none-of-fine 7 itemOver (1 + length ts) is (rows .1) in
+      let outsideNone = none-of-fine 8 (isOutside count) (1 + count) is outside-none in
+      record {
+        tracks = all-resolved ts (none-of-fine 7 trackOver 1 ts (rows .0));
+        items =
+            all-map (λ (i : Item). (itemOver i ≡ false) × (isOutside count i ≡ false)) (ItemFits count) (item-fits count) is
+            (all-both (λ (i : Item). itemOver i ≡ false) (λ (i : Item). isOutside count i ≡ false) is overNone outsideNone);
+      }

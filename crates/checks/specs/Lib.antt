@@ -1,3 +1,3 @@
 pub mod Rule
-pub mod Sound
+pub mod Fits
 pub mod Answer

@@ -1,87 +1,30 @@
 -- Numbers 7 to 11 of the build paper's table, in their order: which record of a board is at fault, and for what. This page goes
--- by the kinds of a board, and it computes. It assumes nothing of the code.
+-- by what a sheet says of its space, tracks and items, and it computes; what an item spans has the page before it,
+-- `crates/spanned/specs/Rule.antt`, whose names it hands on. It assumes nothing of the code.
 use Prim.Native.Nat.{ℕ, _+_}
-use mathlib.Core.Bool.{Bool, true, false, cond, not, _&&_, _||_}
-use mathlib.Core.List.{List, [], _∷_}
+use mathlib.Core.Bool.{Bool, true, false, cond, _&&_, _||_}
+use mathlib.Core.List.{List, [], _∷_, map}
 use lib.Dec.{ltb, leb, eqb}
-use lib.ListN.{length, take, drop}
+use lib.ListN.{length}
 use Rattle.laws.specs.Lists.{some}
 use Rattle.rounds.specs.Rule.{mostDots}
 use Rattle.kinds.specs.Kinds.{amountAt, fallsIn}
 use Rattle.kinds.specs.declared.amount.Amount.{Amount}
 use Rattle.kinds.specs.declared.amount.Amount.the-variants.{Absent, Given}
-use Rattle.kinds.specs.declared.space.Constraint.{Constraint}
-use Rattle.kinds.specs.declared.space.Constraint.the-variants as constraint
-use Rattle.kinds.specs.declared.space.Space.{Space}
+use Rattle.kinds.specs.declared.constraint.Constraint.{Constraint}
+use Rattle.kinds.specs.declared.constraint.Constraint.the-variants as constraint
 use Rattle.kinds.specs.declared.track.Minimum.{Minimum}
 use Rattle.kinds.specs.declared.track.Minimum.the-variants as minimum
 use Rattle.kinds.specs.declared.track.Maximum.{Maximum}
 use Rattle.kinds.specs.declared.track.Maximum.the-variants as maximum
 use Rattle.kinds.specs.declared.track.Track.{Track}
 use Rattle.kinds.specs.declared.item.ContributionKind.{ContributionKind}
-use Rattle.kinds.specs.declared.item.ContributionKind.the-variants as kind
 use Rattle.kinds.specs.declared.item.Item.{Item}
+use Rattle.sheet_kinds.specs.Rule.{resolved}
+use Rattle.sheet_kinds.specs.declared.space.Space.{Space}
+use Rattle.sheet_kinds.specs.declared.track.SheetTrack.{SheetTrack}
 use Rattle.records.specs.Rule.{Fault, fine, fault, first}
-
--- ---- Limits
-
-abbrev pub mostSize : ℕ
-mostSize = 65535
-
-abbrev pub mostFactor : ℕ
-mostFactor = 100000
-
-abbrev pub mostContribution : ℕ
-mostContribution = 65535
-
--- ---- What an item spans
-
--- the part of a list, one for each track, that an item covers
-abbrev pub spanned : {A : Type 0} → Item → List A → List A
-spanned i xs = take (i .span) (drop (i .start) xs)
-
-abbrev pub isFixedMinimum : Minimum → Bool
-isFixedMinimum (minimum.Fixed n) = true
-isFixedMinimum minimum.Auto = false
-isFixedMinimum minimum.MinContent = false
-isFixedMinimum minimum.MaxContent = false
-
-abbrev pub isFixedMaximum : Maximum → Bool
-isFixedMaximum (maximum.Fixed n) = true
-isFixedMaximum maximum.Auto = false
-isFixedMaximum maximum.MinContent = false
-isFixedMaximum maximum.MaxContent = false
-isFixedMaximum (maximum.FitContent n) = false
-isFixedMaximum (maximum.Fr n) = false
-
-abbrev pub isFrMaximum : Maximum → Bool
-isFrMaximum (maximum.Fixed n) = false
-isFrMaximum maximum.Auto = false
-isFrMaximum maximum.MinContent = false
-isFrMaximum maximum.MaxContent = false
-isFrMaximum (maximum.FitContent n) = false
-isFrMaximum (maximum.Fr n) = true
-
--- fixed at both ends
-abbrev pub isFixed : Track → Bool
-isFixed t = isFixedMinimum (t .minimum) && isFixedMaximum (t .maximum)
-
-abbrev pub isFr : Track → Bool
-isFr t = isFrMaximum (t .maximum)
-
-abbrev pub isUnfixed : Track → Bool
-isUnfixed t = not (isFixed t)
-
--- it spans a track that is not fixed at both ends
-abbrev pub isMeasured : List Track → Item → Bool
-isMeasured ts i = some isUnfixed (spanned i ts)
-
-abbrev pub crossesFr : List Track → Item → Bool
-crossesFr ts i = some isFr (spanned i ts)
-
--- an item's contributions, in the order of its row
-abbrev pub contributionKinds : List ContributionKind
-contributionKinds = kind.Minimum ∷ kind.MinContent ∷ kind.MaxContent ∷ []
+pub use Rattle.spanned.specs.Rule.{mostSize, mostFactor, mostContribution, spanned, isFixedMinimum, isFixedMaximum, isFrMaximum, isFixed, isFr, isUnfixed, isMeasured, crossesFr, contributionKinds, isAbsent, lacksContribution}
 
 -- ---- 7: a number is over its limit. What is absent is no number
 
@@ -111,8 +54,9 @@ maximumOver (maximum.Fr n) = ltb mostFactor n
 abbrev pub spaceOver : Space → Bool
 spaceOver s = constraintOver (s .constraint) || amountOver mostDots (s .inner)
 
-abbrev pub trackOver : Track → Bool
-trackOver t = minimumOver (t .minimum) || maximumOver (t .maximum)
+-- a track's numbers, as the sizing reads them
+abbrev pub trackOver : SheetTrack → Bool
+trackOver t = minimumOver (resolved t .minimum) || maximumOver (resolved t .maximum)
 
 abbrev pub itemOver : Item → Bool
 itemOver i = some (λ (k : ContributionKind). amountOver mostContribution (amountAt i k)) contributionKinds
@@ -123,13 +67,6 @@ abbrev pub isOutside : ℕ → Item → Bool
 isOutside n i = eqb (i .span) 0 || ltb n (i .start + i .span)
 
 -- ---- 9: a measured item lacks a contribution
-
-abbrev pub isAbsent : Amount → Bool
-isAbsent Absent = true
-isAbsent (Given n) = false
-
-abbrev pub lacksContribution : Item → Bool
-lacksContribution i = some (λ (k : ContributionKind). isAbsent (amountAt i k)) contributionKinds
 
 abbrev pub isLacking : List Track → Item → Bool
 isLacking ts i = isMeasured ts i && lacksContribution i
@@ -155,29 +92,33 @@ lowest number bad place (x ∷ xs) = cond (bad x) (fault number place) (lowest n
 abbrev pub lowestSpace : ℕ → (Space → Bool) → Space → Fault
 lowestSpace number bad s = cond (bad s) (fault number 0) fine
 
-abbrev pub lowestTrack : ℕ → (Track → Bool) → List Track → Fault
+abbrev pub lowestTrack : {T : Type 0} → ℕ → (T → Bool) → List T → Fault
 lowestTrack number bad ts = lowest number bad 1 ts
 
-abbrev pub lowestItem : ℕ → (Item → Bool) → List Track → List Item → Fault
+abbrev pub lowestItem : {T : Type 0} → ℕ → (Item → Bool) → List T → List Item → Fault
 lowestItem number bad ts is = lowest number bad (1 + length ts) is
-
-abbrev pub overFault : Space → List Track → List Item → Fault
-overFault s ts is = first (lowestSpace 7 spaceOver s) (first (lowestTrack 7 trackOver ts) (lowestItem 7 itemOver ts is))
 
 -- ---- The checks, by number
 
-abbrev pub recordChecks : Space → List Track → List Item → List Fault
-recordChecks s ts is =
-    overFault s ts is
-    ∷ lowestItem 8 (isOutside (length ts)) ts is
+-- 7, of any record
+abbrev pub overFault : Space → List SheetTrack → List Item → Fault
+overFault s ts is = first (lowestSpace 7 spaceOver s) (first (lowestTrack 7 trackOver ts) (lowestItem 7 itemOver ts is))
+
+-- 8 to 11, of items on the tracks that the sizing reads
+abbrev pub itemChecks : List Track → List Item → List Fault
+itemChecks ts is =
+    lowestItem 8 (isOutside (length ts)) ts is
     ∷ lowestItem 9 (isLacking ts) ts is
     ∷ lowestItem 10 (isFalling ts) ts is
     ∷ lowestItem 11 (isCrossing ts) ts is
     ∷ []
 
+abbrev pub recordChecks : Space → List SheetTrack → List Item → List Fault
+recordChecks s ts is = overFault s ts is ∷ itemChecks (map resolved ts) is
+
 unfoldable pub firstOf : List Fault → Fault
 firstOf [] = fine
 firstOf (f ∷ fs) = first f (firstOf fs)
 
-unfoldable pub recordFault : Space → List Track → List Item → Fault
+unfoldable pub recordFault : Space → List SheetTrack → List Item → Fault
 recordFault s ts is = firstOf (recordChecks s ts is)

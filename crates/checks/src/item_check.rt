@@ -1,17 +1,16 @@
 // What an item can be refused for, each as a test of it alone among its tracks.
 use crate::over::item_over;
 use crate::refusal::Refusal;
-use crate::spans::crosses_fr;
-use crate::spans::is_measured;
-use crate::spans::is_outside;
 use kinds::Amount;
 use kinds::ContributionKind;
 use kinds::Item;
+use spanned::crosses_fr;
+use spanned::is_measured;
 ghost use mathlib.Core.Path.{_≡_};
 ghost use mathlib.Core.List.{map};
 ghost use Rattle.records.specs.Rule.{fault};
 ghost use Rattle.kinds.specs.Kinds.{trackOf};
-ghost use Rattle.checks.specs.Rule.{lacksContribution};
+ghost use Rattle.checks.specs.Rule.{isOutside, lacksContribution};
 ghost use Rattle.checks.specs.Answer.{refusalFault, checkNumber, failsOf};
 
 pub(crate) enum ItemCheck {
@@ -62,6 +61,16 @@ impl ItemCheck {
             ItemCheck::Crossing => Refusal::CrossesFr { record: place },
         }
     }
+}
+
+// 8: span 0, or past the last of so many tracks.
+fn is_outside(item: Item, tracks: usize) -> bool
+    ensures { λ r. ⌜ r ≡ isOutside tracks item ⌝ }
+{
+    if item.span == 0 {
+        return true;
+    }
+    item.start as usize + item.span as usize > tracks
 }
 
 fn lacks_contribution(item: Item) -> bool

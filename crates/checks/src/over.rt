@@ -5,8 +5,9 @@ use kinds::ContributionKind;
 use kinds::Item;
 use kinds::Maximum;
 use kinds::Minimum;
-use kinds::Space;
 use kinds::Track;
+use sheet_kinds::SheetTrack;
+use sheet_kinds::Space;
 ghost use mathlib.Core.Path.{_≡_};
 ghost use Rattle.checks.specs.Rule.{amountOver, constraintOver, minimumOver, maximumOver, spaceOver, trackOver, itemOver};
 
@@ -23,7 +24,7 @@ fn constraint_over(constraint: Constraint) -> bool
     ensures { λ r. ⌜ r ≡ constraintOver constraint ⌝ }
 {
     match constraint {
-        Constraint::Definite(n) => n > Space::MOST,
+        Constraint::Definite(n) => n > Constraint::MOST,
         Constraint::MinContent => false,
         Constraint::MaxContent => false,
     }
@@ -64,11 +65,13 @@ pub(crate) fn space_over(space: Space) -> bool
     amount_over(inner, Space::MOST)
 }
 
-pub(crate) fn track_over(track: Track) -> bool
+// The numbers of a track, as the sizing reads them.
+pub(crate) fn track_over(track: SheetTrack) -> bool
     ensures { λ r. ⌜ r ≡ trackOver track ⌝ }
 {
-    let minimum = track.minimum;
-    let maximum = track.maximum;
+    let resolved = track.resolved();
+    let minimum = resolved.minimum;
+    let maximum = resolved.maximum;
     if minimum_over(minimum) {
         return true;
     }

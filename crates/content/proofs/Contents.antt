@@ -6,10 +6,10 @@ use native.Mathlib.Omega.{arith}
 use lib.ListN.{length, getD}
 use Rattle.laws.specs.Lists.{All, keep, inTurn, upFrom}
 use Rattle.kinds.specs.Kinds.{Row, itemOf}
-use Rattle.kinds.specs.declared.space.Constraint.{Constraint}
+use Rattle.kinds.specs.declared.constraint.Constraint.{Constraint}
 use Rattle.kinds.specs.declared.track.Track.{Track}
 use Rattle.kinds.specs.declared.item.Item.{Item}
-use Rattle.checks.specs.Sound.{ItemFits}
+use Rattle.spanned.specs.Sound.{ItemFits}
 use Rattle.lines.specs.declared.line.Line.{Line}
 use Rattle.lines.specs.declared.measured.Measured.{Measured}
 use Rattle.lines.specs.declared.passes.Pass.the-variants.{Missing}

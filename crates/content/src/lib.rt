@@ -17,7 +17,7 @@ ghost use lib.ListN.{length, getD, replicate};
 ghost use Rattle.laws.specs.Lists.{All, keep, inTurn, upFrom};
 ghost use Rattle.rounds.specs.Rule.{mostTracks};
 ghost use Rattle.kinds.specs.Kinds.{trackOf, itemOf};
-ghost use Rattle.checks.specs.Sound.{TrackFits, ItemFits};
+ghost use Rattle.spanned.specs.Sound.{TrackFits, ItemFits};
 ghost use Rattle.lines.specs.Rule.{measuredItems, inOneTrack, start, singles, batched, missing, content};
 ghost use Rattle.lines.specs.Rows.{linesOf};
 ghost use Rattle.lines.specs.Fits.{LinesFit};

@@ -10,7 +10,7 @@ pub struct Space {
 }
 
 impl Space {
-    pub const MOST: u32 = kinds::Space::MOST;
+    pub const MOST: u32 = kinds::Constraint::MOST;
 
     pub(crate) fn new(dots: u32) -> Space
         ensures { λ r. ⌜ r .dots ≡ dots ⌝ }

@@ -7,7 +7,7 @@ use native.Mathlib.Omega.{arith}
 use lib.ListN.{length, length-map}
 use Rattle.laws.specs.Lists.{All}
 use Rattle.laws.specs.Alls.{all-image}
-use Rattle.checks.specs.Rule.{isFr}
+use Rattle.spanned.specs.Rule.{isFr}
 use Rattle.lines.specs.declared.line.Line.{Line}
 use Rattle.lines.specs.declared.fr.Fr.{Fr}
 use Rattle.lines.specs.Rule.{number, flexed, expand}

@@ -13,7 +13,7 @@ use borrow.Author.Tests.{ltb-true, not-true}
 use Rattle.laws.specs.Lists.{some}
 use Rattle.laws.specs.Sums.{sum}
 use Rattle.laws.specs.Tests.{lt-or-ge, true-or-false, never}
-use Rattle.checks.specs.Rule.{isFr}
+use Rattle.spanned.specs.Rule.{isFr}
 use Rattle.lines.specs.declared.line.Line.{Line}
 use Rattle.lines.specs.declared.fr.Fr.{Fr}
 use Rattle.lines.specs.Rule.{number, bases, searchOver, expand}

@@ -8,7 +8,7 @@ use Rattle.laws.specs.Lists.{inTurn, keep, All, all-set, map-set}
 use Rattle.laws.specs.Alls.{all-image-at}
 use Rattle.laws.specs.Walk.{next}
 use Rattle.kinds.specs.Kinds.{Row}
-use Rattle.checks.specs.Rule.{isFr}
+use Rattle.spanned.specs.Rule.{isFr}
 use Rattle.lines.specs.declared.line.Line.{Line}
 use Rattle.lines.specs.declared.fr.Fr.{Fr}
 use Rattle.lines.specs.Rule.{line, number, baseFr, flexed, expand}

@@ -2,8 +2,8 @@
 use mathlib.Core.Path.{_≡_, refl}
 use mathlib.Core.List.{List}
 use Rattle.laws.specs.Lists.{keep}
-use Rattle.kinds.specs.declared.space.Constraint.{Constraint}
-use Rattle.kinds.specs.declared.space.Constraint.the-variants.{Definite, MinContent, MaxContent}
+use Rattle.kinds.specs.declared.constraint.Constraint.{Constraint}
+use Rattle.kinds.specs.declared.constraint.Constraint.the-variants.{Definite, MinContent, MaxContent}
 use Rattle.kinds.specs.declared.track.Track.{Track}
 use Rattle.lines.specs.declared.line.Line.{Line}
 use Rattle.lines.specs.declared.measured.Measured.{Measured}

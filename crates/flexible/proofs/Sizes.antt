@@ -11,7 +11,7 @@ use Rattle.laws.specs.Sums.{sum}
 use Rattle.kinds.specs.Kinds.{Row}
 use Rattle.kinds.specs.declared.track.Maximum.{Maximum}
 use Rattle.kinds.specs.declared.track.Maximum.the-variants as maximum
-use Rattle.checks.specs.Sound.{mostOf}
+use Rattle.spanned.specs.Sound.{mostOf}
 use Rattle.lines.specs.declared.line.Line.{Line}
 use Rattle.lines.specs.Fr.{heldSize, openFactor}
 use Rattle.lines.specs.Rows.{lineOf, linesOf}

@@ -10,7 +10,7 @@ use Rattle.laws.specs.Sums.{sum}
 use Rattle.laws.specs.Walk.{next, kept}
 use Rattle.kinds.specs.Kinds.{Row, maximumNumber}
 use Rattle.kinds.specs.declared.track.Maximum.{Maximum}
-use Rattle.checks.specs.Rule.{isFr, isFrMaximum}
+use Rattle.spanned.specs.Rule.{isFr, isFrMaximum}
 use Rattle.lines.specs.declared.line.Line.{Line}
 use Rattle.lines.specs.declared.fr.Fr.{Fr}
 use Rattle.lines.specs.Rule.{number}

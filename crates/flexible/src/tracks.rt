@@ -3,7 +3,7 @@ use kinds::Maximum;
 use lines::Line;
 ghost use mathlib.Core.Path.{_≡_};
 ghost use mathlib.Core.Bool.{cond};
-ghost use Rattle.checks.specs.Rule.{isFr};
+ghost use Rattle.spanned.specs.Rule.{isFr};
 ghost use Rattle.lines.specs.Rule.{number};
 ghost use Rattle.lines.specs.Rows.{lineOf};
 

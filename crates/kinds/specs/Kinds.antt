@@ -1,15 +1,13 @@
--- The code's kinds and the rows that say them. A tag tells absent from given; no number does. Assumes nothing.
+-- The kinds that the sizing reads, and the rows that say them. A tag tells absent from given; no number does. Assumes nothing.
 use Prim.Native.Nat.{ℕ, _+_, _*_, _/_, _%_}
 use mathlib.Core.Bool.{Bool, false, cond, _||_}
 use mathlib.Core.List.{List, [], _∷_}
 use lib.Dec.{ltb, eqb}
 use lib.ListN.{getD}
-use Rattle.laws.specs.Marks.{bit}
 use Rattle.kinds.specs.declared.amount.Amount.{Amount}
 use Rattle.kinds.specs.declared.amount.Amount.the-variants.{Absent, Given}
-use Rattle.kinds.specs.declared.space.Constraint.{Constraint}
-use Rattle.kinds.specs.declared.space.Constraint.the-variants as constraint
-use Rattle.kinds.specs.declared.space.Space.{Space}
+use Rattle.kinds.specs.declared.constraint.Constraint.{Constraint}
+use Rattle.kinds.specs.declared.constraint.Constraint.the-variants as constraint
 use Rattle.kinds.specs.declared.track.Minimum.{Minimum}
 use Rattle.kinds.specs.declared.track.Minimum.the-variants as minimum
 use Rattle.kinds.specs.declared.track.Maximum.{Maximum}
@@ -37,10 +35,7 @@ amountNumber (Given n) = n
 abbrev pub amountOf : ℕ → ℕ → Amount
 amountOf tag n = cond (eqb tag 1) (Given n) Absent
 
--- ---- The space
-
-abbrev pub space : Constraint → Amount → Bool → Space
-space constraint inner stretch = record { constraint = constraint; inner = inner; stretch = stretch }
+-- ---- What the space asks of the board
 
 abbrev pub constraintTag : Constraint → ℕ
 constraintTag (constraint.Definite n) = 1
@@ -54,12 +49,6 @@ constraintNumber constraint.MaxContent = 0
 
 abbrev pub constraintOf : ℕ → ℕ → Constraint
 constraintOf tag n = cond (eqb tag 1) (constraint.Definite n) (cond (eqb tag 2) constraint.MinContent constraint.MaxContent)
-
-abbrev pub spaceRow : Space → Row
-spaceRow s = constraintTag (s .constraint) ∷ constraintNumber (s .constraint) ∷ amountTag (s .inner) ∷ amountNumber (s .inner) ∷ bit (s .stretch) ∷ []
-
-abbrev pub spaceOf : Row → Space
-spaceOf row = space (constraintOf (getD row 0 0) (getD row 1 0)) (amountOf (getD row 2 0) (getD row 3 0)) (eqb (getD row 4 0) 1)
 
 -- ---- A track
 
@@ -107,9 +96,6 @@ maximumOf tag n =
     (cond (eqb tag 3) maximum.MinContent
     (cond (eqb tag 4) maximum.MaxContent
     (cond (eqb tag 5) (maximum.FitContent n) (maximum.Fr n)))))
-
-abbrev pub trackRow : Track → Row
-trackRow t = minimumTag (t .minimum) ∷ minimumNumber (t .minimum) ∷ maximumTag (t .maximum) ∷ maximumNumber (t .maximum) ∷ []
 
 abbrev pub trackOf : Row → Track
 trackOf row = track (minimumOf (getD row 0 0) (getD row 1 0)) (maximumOf (getD row 2 0) (getD row 3 0))

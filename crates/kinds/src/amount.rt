@@ -13,7 +13,7 @@ impl Amount {
 
     pub const GIVEN: u32 = 1;
 
-    pub(crate) fn of(tag: u32, n: u32) -> Amount
+    pub fn of(tag: u32, n: u32) -> Amount
         ensures { λ r. ⌜ r ≡ amountOf tag n ⌝ }
     {
         if tag == Amount::GIVEN {
@@ -22,7 +22,7 @@ impl Amount {
         Amount::Absent
     }
 
-    pub(crate) fn tag(self) -> u32
+    pub fn tag(self) -> u32
         ensures { λ r. ⌜ r ≡ amountTag self ⌝ }
     {
         match self {
@@ -32,7 +32,7 @@ impl Amount {
     }
 
     // What stands in a sheet beside the tag: 0 where the number is absent.
-    pub(crate) fn number(self) -> u32
+    pub fn number(self) -> u32
         ensures { λ r. ⌜ r ≡ amountNumber self ⌝ }
     {
         match self {

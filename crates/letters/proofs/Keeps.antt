@@ -17,8 +17,8 @@ use Rattle.rounds.specs.Rule.{gainsOf, fill}
 use Rattle.rounds.proofs.Tied.{Fresh}
 use Rattle.rounds.proofs.Fresh.{gain-add-left-le, length-gains}
 use Rattle.kinds.specs.Kinds.{Row}
-use Rattle.kinds.specs.declared.space.Constraint.{Constraint}
-use Rattle.checks.specs.Rule.{mostSize, mostContribution}
+use Rattle.kinds.specs.declared.constraint.Constraint.{Constraint}
+use Rattle.spanned.specs.Rule.{mostSize, mostContribution}
 use Rattle.lines.specs.declared.limit.Limit.{Limit}
 use Rattle.lines.specs.declared.limit.Limit.the-variants.{None, UpTo}
 use Rattle.lines.specs.declared.line.Line.{Line}

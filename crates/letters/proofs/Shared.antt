@@ -19,8 +19,8 @@ use Rattle.rounds.proofs.Fresh.{gain-add-left-le, lost-is-gains, left-is-left, 
 use Rattle.kinds.specs.Kinds.{Row, maximumNumber}
 use Rattle.kinds.specs.declared.track.Maximum.{Maximum}
 use Rattle.kinds.specs.declared.track.Maximum.the-variants as maximum
-use Rattle.checks.specs.Rule.{mostSize}
-use Rattle.checks.specs.Sound.{mostOf}
+use Rattle.spanned.specs.Rule.{mostSize}
+use Rattle.spanned.specs.Sound.{mostOf}
 use Rattle.lines.specs.declared.limit.Limit.{Limit}
 use Rattle.lines.specs.declared.limit.Limit.the-variants.{None, UpTo}
 use Rattle.lines.specs.declared.line.Line.{Line}

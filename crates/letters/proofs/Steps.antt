@@ -14,8 +14,8 @@ use Rattle.laws.specs.Walk.{next, kept}
 use Rattle.kinds.specs.Kinds.{Row, maximumTag, maximumNumber}
 use Rattle.kinds.specs.declared.track.Maximum.{Maximum}
 use Rattle.kinds.specs.declared.track.Maximum.the-variants as maximum
-use Rattle.checks.specs.Rule.{mostSize}
-use Rattle.checks.specs.Sound.{mostOf}
+use Rattle.spanned.specs.Rule.{mostSize}
+use Rattle.spanned.specs.Sound.{mostOf}
 use Rattle.lines.specs.declared.limit.Limit.{Limit}
 use Rattle.lines.specs.declared.limit.Limit.the-variants.{None, UpTo}
 use Rattle.lines.specs.declared.line.Line.{Line}

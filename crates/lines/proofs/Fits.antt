@@ -9,15 +9,15 @@ use lib.ListN.{length}
 use Rattle.laws.specs.Lists.{All, inTurn, changeAt}
 use Rattle.laws.specs.Alls.{all-image}
 use Rattle.kinds.specs.Kinds.{minimumNumber, maximumNumber}
-use Rattle.kinds.specs.declared.space.Constraint.{Constraint}
-use Rattle.kinds.specs.declared.space.Constraint.the-variants.{Definite, MinContent, MaxContent}
+use Rattle.kinds.specs.declared.constraint.Constraint.{Constraint}
+use Rattle.kinds.specs.declared.constraint.Constraint.the-variants.{Definite, MinContent, MaxContent}
 use Rattle.kinds.specs.declared.track.Minimum.{Minimum}
 use Rattle.kinds.specs.declared.track.Minimum.the-variants as minimum
 use Rattle.kinds.specs.declared.track.Maximum.{Maximum}
 use Rattle.kinds.specs.declared.track.Maximum.the-variants as maximum
 use Rattle.kinds.specs.declared.track.Track.{Track}
-use Rattle.checks.specs.Rule.{mostSize}
-use Rattle.checks.specs.Sound.{TrackFits, mostOf}
+use Rattle.spanned.specs.Rule.{mostSize}
+use Rattle.spanned.specs.Sound.{TrackFits, mostOf}
 use Rattle.lines.specs.declared.limit.Limit.{Limit}
 use Rattle.lines.specs.declared.limit.Limit.the-variants.{None, UpTo}
 use Rattle.lines.specs.declared.line.Line.{Line}

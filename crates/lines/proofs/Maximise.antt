@@ -13,9 +13,9 @@ use Rattle.rounds.specs.Rule as fill
 use Rattle.rounds.specs.Rests.{capIn, caps}
 use Rattle.rounds.proofs.Tied.{Fresh}
 use Rattle.rounds.proofs.Fresh.{gain-le-cap}
-use Rattle.kinds.specs.declared.space.Constraint.{Constraint}
-use Rattle.kinds.specs.declared.space.Constraint.the-variants.{Definite, MinContent, MaxContent}
-use Rattle.checks.specs.Rule.{mostSize}
+use Rattle.kinds.specs.declared.constraint.Constraint.{Constraint}
+use Rattle.kinds.specs.declared.constraint.Constraint.the-variants.{Definite, MinContent, MaxContent}
+use Rattle.spanned.specs.Rule.{mostSize}
 use Rattle.lines.specs.declared.limit.Limit.{Limit}
 use Rattle.lines.specs.declared.limit.Limit.the-variants.{None, UpTo}
 use Rattle.lines.specs.declared.line.Line.{Line}

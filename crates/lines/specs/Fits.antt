@@ -3,8 +3,8 @@
 use Prim.Native.Nat.{ℕ, _+_, _≤_, _<_}
 use mathlib.Core.List.{List}
 use Rattle.laws.specs.Lists.{All}
-use Rattle.checks.specs.Rule.{mostSize, mostContribution}
-use Rattle.checks.specs.Sound.{TrackFits}
+use Rattle.spanned.specs.Rule.{mostSize, mostContribution}
+use Rattle.spanned.specs.Sound.{TrackFits}
 use Rattle.lines.specs.declared.line.Line.{Line}
 use Rattle.lines.specs.declared.measured.Measured.{Measured}
 use Rattle.lines.specs.Rows.{limitNumber}

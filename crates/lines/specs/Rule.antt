@@ -14,9 +14,8 @@ use Rattle.rounds.specs.Rule as fill
 use Rattle.kinds.specs.Kinds.{minimumTag, maximumTag, maximumNumber, amountAt}
 use Rattle.kinds.specs.declared.amount.Amount.{Amount}
 use Rattle.kinds.specs.declared.amount.Amount.the-variants.{Absent, Given}
-use Rattle.kinds.specs.declared.space.Constraint.{Constraint}
-use Rattle.kinds.specs.declared.space.Constraint.the-variants.{Definite, MinContent, MaxContent}
-use Rattle.kinds.specs.declared.space.Space.{Space}
+use Rattle.kinds.specs.declared.constraint.Constraint.{Constraint}
+use Rattle.kinds.specs.declared.constraint.Constraint.the-variants.{Definite, MinContent, MaxContent}
 use Rattle.kinds.specs.declared.track.Minimum.{Minimum}
 use Rattle.kinds.specs.declared.track.Minimum.the-variants as minimum
 use Rattle.kinds.specs.declared.track.Maximum.{Maximum}
@@ -24,7 +23,7 @@ use Rattle.kinds.specs.declared.track.Maximum.the-variants as maximum
 use Rattle.kinds.specs.declared.track.Track.{Track}
 use Rattle.kinds.specs.declared.item.ContributionKind.the-variants as kind
 use Rattle.kinds.specs.declared.item.Item.{Item}
-use Rattle.checks.specs.Rule.{isFr, isMeasured}
+use Rattle.spanned.specs.Rule.{isFr, isMeasured}
 use Rattle.lines.specs.declared.limit.Limit.{Limit}
 use Rattle.lines.specs.declared.limit.Limit.the-variants.{None, UpTo}
 use Rattle.lines.specs.declared.line.Line.{Line}
@@ -380,20 +379,7 @@ maximise (Definite n) ls = filledTo ls (fill (n - bases ls) (map maximiseTrack l
 maximise MinContent ls = filledTo ls (fill 0 (map maximiseTrack ls))
 maximise MaxContent ls = record { lines = map (λ (l : Line). withBase l (limitSize l)) ls; rounds = 0 }
 
--- ---- 6. Flexible
-
--- expansion space is the inner size if given; without it, definite becomes max-content and the others stay
-abbrev pub withoutInner : Constraint → Constraint
-withoutInner (Definite n) = MaxContent
-withoutInner MinContent = MinContent
-withoutInner MaxContent = MaxContent
-
-abbrev pub expansionOf : Amount → Constraint → Constraint
-expansionOf (Given n) c = Definite n
-expansionOf Absent c = withoutInner c
-
-abbrev pub expansion : Space → Constraint
-expansion s = expansionOf (s .inner) (s .constraint)
+-- ---- 6. Flexible, by the expansion space, of which `crates/sheet_kinds/specs/Rule.antt` says what it is
 
 -- the fr search over these lines: all but the fr tracks are held inflexible from the start
 abbrev pub flexOf : Line → Flex
@@ -464,13 +450,13 @@ pub record Board : Type 0 where
 abbrev pub boardOf : Constraint → ℕ → List Line → Board
 boardOf e rounds ls = record { places = map placeOf ls; free = freeOf e ls; rounds = rounds }
 
--- steps 6 and 7
-unfoldable pub finish : Space → List Track → List Measured → List Line → List Line
-finish s ts is ls = stretched (s .stretch) (expansion s) (expand (frFor (expansion s) ts is ls) ls)
+-- steps 6 and 7, in an expansion space, stretched if asked
+unfoldable pub finish : (expansion : Constraint) (asked : Bool) → List Track → List Measured → List Line → List Line
+finish e asked ts is ls = stretched asked e (expand (frFor e ts is ls) ls)
 
--- the whole; rounds are those of step 5
-abbrev pub boardAfter : Space → List Track → List Measured → Maximised → Board
-boardAfter s ts is m = boardOf (expansion s) (m .rounds) (finish s ts is (m .lines))
+-- the whole, from the constraint, the expansion space and whether to stretch; rounds are those of step 5
+abbrev pub boardAfter : (expansion : Constraint) (asked : Bool) → List Track → List Measured → Maximised → Board
+boardAfter e asked ts is m = boardOf e (m .rounds) (finish e asked ts is (m .lines))
 
-unfoldable pub size : Space → List Track → List Item → Board
-size s ts is = boardAfter s ts (measuredItems ts is) (maximise (s .constraint) (content (s .constraint) ts (measuredItems ts is)))
+unfoldable pub size : (constraint expansion : Constraint) (asked : Bool) → List Track → List Item → Board
+size c e asked ts is = boardAfter e asked ts (measuredItems ts is) (maximise c (content c ts (measuredItems ts is)))

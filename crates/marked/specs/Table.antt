@@ -1,5 +1,5 @@
 -- The build paper's marked examples, W1 to W12: one table, and one claim that the checker computes. Assumes nothing: each row
--- is held against the published rules of the fill, of the sizing, and of the board as called with bytes.
+-- is held against the published rules of the fill, of the sizing as a layout hands it its space and tracks, and of the board as called with bytes.
 use mathlib.Core.Path.{_≡_, refl}
 use Prim.Native.Nat.{ℕ}
 use mathlib.Core.Bool.{Bool, true, false, _&&_}
@@ -13,14 +13,16 @@ use Rattle.laws.specs.Lists.{among, upFrom, keep, some, every, changeAt, inTurn
 use Rattle.rounds.specs.Rule.{Room, upTo, noLimit, Track, gainsOf, opens, leastRoom, oddTakers, handOut, Fill, round, more, fill}
 use Rattle.sheet.specs.Rule.{isIn, rowAt, rowsAt, recordSize, taggedFault, rowFault, recordsFault, sheetFault, sheetAt}
 use Rattle.checks.specs.Rule.{lowest, firstOf, recordFault}
-use Rattle.board.specs.Rule.{BoardTold, BoardOutcome, boardCall}
+use Rattle.layout.specs.Rule.{BoardTold, BoardOutcome, layoutSizes, layoutCall}
+use Rattle.board.specs.Rule.{boardCall}
 use Rattle.kinds.specs.Kinds as kinds
 use Rattle.kinds.specs.declared.amount.Amount.the-variants.{Given}
-use Rattle.kinds.specs.declared.space.Constraint.the-variants.{Definite}
-use Rattle.kinds.specs.declared.space.Space.{Space}
-use Rattle.kinds.specs.declared.track.Minimum.the-variants as minimum
-use Rattle.kinds.specs.declared.track.Maximum.the-variants as maximum
-use Rattle.kinds.specs.declared.track.Track as sheet
+use Rattle.kinds.specs.declared.constraint.Constraint.the-variants.{Definite}
+use Rattle.sheet_kinds.specs.declared.space.Space.{Space}
+use Rattle.sheet_kinds.specs.declared.track.SheetMinimum.the-variants as minimum
+use Rattle.sheet_kinds.specs.declared.track.SheetMaximum.the-variants as maximum
+use Rattle.sheet_kinds.specs.declared.track.SheetTrack.{SheetTrack}
+use Rattle.sheet_kinds.specs.Kinds as sheet
 use Rattle.kinds.specs.declared.item.Item.{Item}
 use Rattle.lines.specs.Fr.{frNow, search}
 use Rattle.lines.specs.Rule.{FreeTold, none, dots, Board, bases, measuredItems, start, singles, shares, gainsBy, increases, raise, batched, longer, lastBatch, missing, content, maximise, searchOver, basesFr, contentFr, frFor, expand, stretched, finish, size}
@@ -38,14 +40,14 @@ idle room = record { affected = false; room = room; gain = 0 }
 
 -- definite 100 with inner size 100
 abbrev pub hundred : Bool → Space
-hundred stretch = kinds.space (Definite 100) (Given 100) stretch
+hundred stretch = sheet.space (Definite 100) (Given 100) stretch
 
 -- an fr track with this base, its factor in thousandths
-abbrev pub frTrack : ℕ → ℕ → sheet.Track
-frTrack base factor = kinds.track (minimum.Fixed base) (maximum.Fr factor)
+abbrev pub frTrack : ℕ → ℕ → SheetTrack
+frTrack base factor = sheet.sheetTrack (minimum.Fixed base) (maximum.Fr factor)
 
-abbrev pub autoTrack : sheet.Track
-autoTrack = kinds.track minimum.Auto maximum.Auto
+abbrev pub autoTrack : SheetTrack
+autoTrack = sheet.sheetTrack minimum.Auto maximum.Auto
 
 -- across both of two tracks
 abbrev pub across : ℕ → ℕ → ℕ → Item
@@ -55,7 +57,7 @@ across a b c = kinds.item 0 2 (kinds.contribution (Given a) ∷ kinds.contributi
 -- bases and its limits, the free space and the rounds; or a sheet's bytes, then the same.
 pub data Example : Type 0 where
   filling : (dots : ℕ) (tracks : List Track) (gains : List ℕ) (left rounds : ℕ) → Example
-  sizing : (space : Space) (tracks : List sheet.Track) (items : List Item) (places : List (List ℕ)) (free : ℤ) (rounds : ℕ) → Example
+  sizing : (space : Space) (tracks : List SheetTrack) (items : List Item) (places : List (List ℕ)) (free : ℤ) (rounds : ℕ) → Example
   board : (bytes : List ℕ) (places : List (List ℕ)) (free : ℤ) (rounds : ℕ) → Example
 
 abbrev pub w1 : Example
@@ -147,12 +149,12 @@ sameOutcome o places free rounds = sameTold (o .told) free rounds && sameRows (o
 
 abbrev pub holds : Example → Bool
 holds (filling n tracks gains left rounds) = sameFill (fill n tracks) gains left rounds
-holds (sizing space tracks items places free rounds) = sameBoard (size space tracks items) places free rounds
+holds (sizing space tracks items places free rounds) = sameBoard (layoutSizes space tracks items) places free rounds
 holds (board bytes places free rounds) = sameOutcome (boardCall bytes lent) places free rounds
 
 -- every row holds
 unfoldable pub allHold : List Example → Bool
-unfolding number runs gainsOf opens leastRoom oddTakers handOut round more fill sum among upFrom keep some every changeAt inTurn larger largerFrom zipWith flatMap frNow search bases measuredItems start singles shares gainsBy increases raise batched longer lastBatch missing content maximise searchOver basesFr contentFr frFor expand stretched finish size isIn rowAt rowsAt recordSize taggedFault rowFault recordsFault sheetFault sheetAt lowest firstOf recordFault boardCall
+unfolding number runs gainsOf opens leastRoom oddTakers handOut round more fill sum among upFrom keep some every changeAt inTurn larger largerFrom zipWith flatMap frNow search bases measuredItems start singles shares gainsBy increases raise batched longer lastBatch missing content maximise searchOver basesFr contentFr frFor expand stretched finish size isIn rowAt rowsAt recordSize taggedFault rowFault recordsFault sheetFault sheetAt lowest firstOf recordFault layoutCall boardCall
 allHold [] = true
 allHold (e ∷ es) = holds e && allHold es
 

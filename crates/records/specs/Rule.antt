@@ -4,8 +4,8 @@
 use Prim.Native.Nat.{ℕ, zero, suc, _+_, _*_, _/_, _%_}
 use mathlib.Core.Bool.{Bool, true, false, cond, _||_}
 use mathlib.Core.List.{List, [], _∷_, _++_}
-use lib.Dec.{eqb}
-use lib.ListN.{getD}
+use lib.Dec.{leb, eqb}
+use lib.ListN.{length, drop, getD}
 pub use Rattle.kinds.specs.Kinds.{Row}
 
 -- ---- Numbers, little-endian
@@ -147,3 +147,13 @@ rowFault (mark listed ∷ parts) (n ∷ row) at = first (unless (isIn n listed) 
 rowFault (pair ∷ parts) (n ∷ row) at = rowFault parts row (at + 4)
 rowFault (part ∷ parts) [] at = fine
 rowFault [] row at = fine
+
+-- ---- What is lent
+
+-- 6: fewer places are lent than are wanted.
+abbrev pub enough : (wanted lent : ℕ) → Fault
+enough wanted lent = unless (leb wanted lent) (fault 6 0)
+
+-- the first places of what was lent are these, the others keep what they hold
+abbrev pub onto : {A : Type 0} → List A → List A → List A
+onto new lent = new ++ drop (length new) lent

@@ -3,8 +3,8 @@ use crate::refusal::Fault;
 use crate::refusal::Refusal;
 use kinds::Amount;
 use kinds::Constraint;
-use kinds::Maximum;
-use kinds::Minimum;
+use sheet_kinds::SheetMaximum;
+use sheet_kinds::SheetMinimum;
 ghost use mathlib.Core.Path.{_≡_};
 ghost use Prim.Native.Nat.{_+_, _≤_};
 ghost use Rattle.records.specs.Rule.{constraintTags, givenTags, minimumTags, maximumTags, stretchBytes, isIn, unless, fault};
@@ -46,16 +46,16 @@ pub fn given(tag: u32) -> Use
 pub fn minimum(tag: u32) -> Use
     ensures { λ r. ⌜ r ≡ useOf minimumTags tag ⌝ }
 {
-    if tag == Minimum::FIXED {
+    if tag == SheetMinimum::FIXED {
         return Use::Carries;
     }
-    if tag == Minimum::AUTO {
+    if tag == SheetMinimum::AUTO {
         return Use::Bare;
     }
-    if tag == Minimum::MIN_CONTENT {
+    if tag == SheetMinimum::MIN_CONTENT {
         return Use::Bare;
     }
-    if tag == Minimum::MAX_CONTENT {
+    if tag == SheetMinimum::MAX_CONTENT {
         return Use::Bare;
     }
     Use::Unlisted
@@ -64,22 +64,22 @@ pub fn minimum(tag: u32) -> Use
 pub fn maximum(tag: u32) -> Use
     ensures { λ r. ⌜ r ≡ useOf maximumTags tag ⌝ }
 {
-    if tag == Maximum::FIXED {
+    if tag == SheetMaximum::FIXED {
         return Use::Carries;
     }
-    if tag == Maximum::FIT_CONTENT {
+    if tag == SheetMaximum::FIT_CONTENT {
         return Use::Carries;
     }
-    if tag == Maximum::FR {
+    if tag == SheetMaximum::FR {
         return Use::Carries;
     }
-    if tag == Maximum::AUTO {
+    if tag == SheetMaximum::AUTO {
         return Use::Bare;
     }
-    if tag == Maximum::MIN_CONTENT {
+    if tag == SheetMaximum::MIN_CONTENT {
         return Use::Bare;
     }
-    if tag == Maximum::MAX_CONTENT {
+    if tag == SheetMaximum::MAX_CONTENT {
         return Use::Bare;
     }
     Use::Unlisted

@@ -7,10 +7,11 @@ use mathlib.Core.List.{List}
 use lib.ListN.{length, getD}
 use Rattle.laws.specs.Rows.{firsts, elements}
 use Rattle.records.specs.Rule.{Row, Part, constraintTags, givenTags, minimumTags, maximumTags, stretchBytes, spaceRecord, trackRecord, itemRecord, isIn, taggedFault, rowFault, fine, fault, unless}
-use Rattle.kinds.specs.Kinds.{spaceRow, spaceOf, trackRow, trackOf, contribution, amountAt, itemRow, itemOf}
+use Rattle.kinds.specs.Kinds.{contribution, amountAt, itemRow, itemOf}
+use Rattle.sheet_kinds.specs.Kinds.{spaceRow, spaceOf, sheetTrackRow, sheetTrackOf}
 use Rattle.kinds.specs.declared.amount.Amount.the-variants.{Absent}
-use Rattle.kinds.specs.declared.space.Space.{Space}
-use Rattle.kinds.specs.declared.track.Track.{Track}
+use Rattle.sheet_kinds.specs.declared.space.Space.{Space}
+use Rattle.sheet_kinds.specs.declared.track.SheetTrack.{SheetTrack}
 use Rattle.kinds.specs.declared.item.ContributionKind.the-variants as kind
 use Rattle.kinds.specs.declared.item.Item.{Item}
 use Rattle.records.proofs.Firsts.{fine-both, fine-test}
@@ -43,14 +44,14 @@ row-of-space row p l e =
 
 -- ---- a track
 
-pub track-of-row : (t : Track) → trackOf (trackRow t) ≡ t
+pub track-of-row : (t : SheetTrack) → sheetTrackOf (sheetTrackRow t) ≡ t
 track-of-row t = rw (minimum-said (t .minimum) .0, maximum-said (t .maximum) .0)
 
-pub track-fine : (t : Track) (p : ℕ) → rowFault trackRecord (trackRow t) p ≡ fine
+pub track-fine : (t : SheetTrack) (p : ℕ) → rowFault trackRecord (sheetTrackRow t) p ≡ fine
 unfolding rowFault
 track-fine t p = rw (minimum-said (t .minimum) .1 p, maximum-said (t .maximum) .1 (p + 5))
 
-pub row-of-track : (row : Row) (p : ℕ) → length row ≡ 4 → rowFault trackRecord row p ≡ fine → trackRow (trackOf row) ≡ row
+pub row-of-track : (row : Row) (p : ℕ) → length row ≡ 4 → rowFault trackRecord row p ≡ fine → sheetTrackRow (sheetTrackOf row) ≡ row
 unfolding rowFault
 row-of-track row p l e =
     let x = fine-both (taggedFault minimumTags (getD row 0 0) (getD row 1 0) p) _ (fine-elements trackRecord 4 row p l e) in

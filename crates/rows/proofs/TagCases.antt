@@ -10,11 +10,12 @@ use borrow.Author.Tests.{eqb-true}
 use Rattle.laws.specs.Marks.{bit}
 use Rattle.laws.specs.Tests.{true-or-false, never}
 use Rattle.records.specs.Rule.{Tags, constraintTags, givenTags, minimumTags, maximumTags, stretchBytes, isIn, taggedFault, fine, fault, unless}
-use Rattle.kinds.specs.Kinds.{amountTag, amountNumber, amountOf, constraintTag, constraintNumber, constraintOf, minimumTag, minimumNumber, minimumOf, maximumTag, maximumNumber, maximumOf}
+use Rattle.kinds.specs.Kinds.{amountTag, amountNumber, amountOf, constraintTag, constraintNumber, constraintOf}
+use Rattle.sheet_kinds.specs.Kinds.{sheetMinimumTag, sheetMinimumNumber, sheetMinimumOf, sheetMaximumTag, sheetMaximumNumber, sheetMaximumOf}
 use Rattle.kinds.specs.declared.amount.Amount.the-variants.{Absent, Given}
-use Rattle.kinds.specs.declared.space.Constraint.the-variants as constraint
-use Rattle.kinds.specs.declared.track.Minimum.the-variants as minimum
-use Rattle.kinds.specs.declared.track.Maximum.the-variants as maximum
+use Rattle.kinds.specs.declared.constraint.Constraint.the-variants as constraint
+use Rattle.sheet_kinds.specs.declared.track.SheetMinimum.the-variants as minimum
+use Rattle.sheet_kinds.specs.declared.track.SheetMaximum.the-variants as maximum
 use Rattle.records.proofs.Firsts.{fine-test}
 
 -- ---- a tag and number without fault, case by case
@@ -72,17 +73,17 @@ amount-said (Given n) = (refl, λ p. refl)
 pub amount-kept : Kept givenTags amountTag amountNumber amountOf
 amount-kept = tagged-cases _ givenTags ((λ n. (refl, refl)), tt) ((refl, refl), tt)
 
-pub minimum-said : Said minimumTags minimumTag minimumNumber minimumOf
+pub minimum-said : Said minimumTags sheetMinimumTag sheetMinimumNumber sheetMinimumOf
 unfolding taggedFault isIn
 minimum-said (minimum.Fixed n) = (refl, λ p. refl)
 minimum-said minimum.Auto = (refl, λ p. refl)
 minimum-said minimum.MinContent = (refl, λ p. refl)
 minimum-said minimum.MaxContent = (refl, λ p. refl)
 
-pub minimum-kept : Kept minimumTags minimumTag minimumNumber minimumOf
+pub minimum-kept : Kept minimumTags sheetMinimumTag sheetMinimumNumber sheetMinimumOf
 minimum-kept = tagged-cases _ minimumTags ((λ n. (refl, refl)), tt) ((refl, refl), ((refl, refl), ((refl, refl), tt)))
 
-pub maximum-said : Said maximumTags maximumTag maximumNumber maximumOf
+pub maximum-said : Said maximumTags sheetMaximumTag sheetMaximumNumber sheetMaximumOf
 unfolding taggedFault isIn
 maximum-said (maximum.Fixed n) = (refl, λ p. refl)
 maximum-said maximum.Auto = (refl, λ p. refl)
@@ -91,7 +92,7 @@ maximum-said maximum.MaxContent = (refl, λ p. refl)
 maximum-said (maximum.FitContent n) = (refl, λ p. refl)
 maximum-said (maximum.Fr n) = (refl, λ p. refl)
 
-pub maximum-kept : Kept maximumTags maximumTag maximumNumber maximumOf
+pub maximum-kept : Kept maximumTags sheetMaximumTag sheetMaximumNumber sheetMaximumOf
 maximum-kept = tagged-cases _ maximumTags ((λ n. (refl, refl)), ((λ n. (refl, refl)), ((λ n. (refl, refl)), tt))) ((refl, refl), ((refl, refl), ((refl, refl), tt)))
 
 -- ---- the stretch byte

@@ -13,7 +13,7 @@ use Rattle.records.proofs.Firsts.{fine-both, fine-test}
 use Rattle.rows.proofs.Stands.{Stands, stands-join, two-stands, rows-stand, length-rowsAt, width, width-rowAt}
 use Rattle.rows.proofs.KindRows.{row-of-space}
 use Rattle.sheet.specs.Rule.{Part, recordSize, spaceRecord, rowAt, rowsAt, twoAt, fine, wholeTo, rowFault, recordsFault, Section, countFault, sectionFault, sectionEnd, spaceSection, trackSection, itemSection, mostItems, tracksAt, itemsAt, sheetEnd, sheetFault}
-use Rattle.kinds.specs.Kinds.{spaceRow, spaceOf}
+use Rattle.sheet_kinds.specs.Kinds.{spaceRow, spaceOf}
 use Rattle.sheet.specs.Content.{sectionBytes}
 use Rattle.sheet.proofs.Looks.{fine-whole}
 

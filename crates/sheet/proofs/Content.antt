@@ -15,7 +15,7 @@ use Rattle.sheet.specs.Rule.{Row, recordSize, rowAt, rowsAt, rowFault, r
 use Rattle.sheet.specs.Answer.{sheetOf}
 use Rattle.sheet.specs.Content.{rowsFault, sectionBytes, tracksFault, itemsFault, itemsAfter, sheetSize, contentFault, Looked}
 use Rattle.sheet.specs.RoundTrip.{Shaped}
-use Rattle.kinds.specs.declared.space.Space.{Space}
+use Rattle.sheet_kinds.specs.declared.space.Space.{Space}
 use Rattle.sheet.proofs.Looked.{looked-of-long, long-of-looked}
 use Rattle.sheet.proofs.SectionBytes.{length-sectionBytes, section-count, section-rows, section-end, section-fault}
 

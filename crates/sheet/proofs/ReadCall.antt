@@ -11,9 +11,9 @@ use Rattle.records.specs.declared.refusal.Refusal.{Refusal}
 use Rattle.records.proofs.Firsts.{fine-both, fine-test}
 use Rattle.rows.proofs.Stands.{length-rowsAt}
 use Rattle.sheet.specs.Rule.{Row, spaceRecord, trackRecord, itemRecord, rowAt, rowsAt, twoAt, Fault, fine, fault, mostItems, countFault, trackSection, itemSection, spaceSection, tracksAt, itemsAt, sheetEnd, Sheet, sheetAt, sheetFault, enough, onto, ReadTold, sheetRead, readRefused, ReadOutcome, readFault, readAs, readCall, countsFault, endCall}
-use Rattle.kinds.specs.Kinds.{spaceRow, spaceOf}
+use Rattle.sheet_kinds.specs.Kinds.{spaceRow, spaceOf}
 use Rattle.sheet.specs.Answer.{readTold, readLeaves, endTold}
-use Rattle.kinds.specs.declared.space.Space.{Space}
+use Rattle.sheet_kinds.specs.declared.space.Space.{Space}
 use Rattle.sheet.specs.declared.reading.ReadAnswer.{ReadAnswer}
 use Rattle.sheet.specs.declared.reading.ReadAnswer.the-variants as answer
 use Rattle.sheet.specs.declared.EndAnswer.the-variants as end

@@ -8,10 +8,10 @@ use Rattle.laws.specs.Put.{put, put-then, put-front}
 use Rattle.rows.specs.Shapes.{EachLong}
 use Rattle.rows.proofs.Stands.{width}
 use Rattle.sheet.specs.Rule.{Row, recordSize, spaceRecord, trackRecord, itemRecord, twoBytes, fourBytes, rowBytes, tracksAt, sheetBytes, onto}
-use Rattle.kinds.specs.Kinds.{spaceRow}
+use Rattle.sheet_kinds.specs.Kinds.{spaceRow}
 use Rattle.sheet.specs.Answer.{sheetOf}
 use Rattle.sheet.specs.Content.{sectionBytes, itemsAfter}
-use Rattle.kinds.specs.declared.space.Space.{Space}
+use Rattle.sheet_kinds.specs.declared.space.Space.{Space}
 use Rattle.sheet.proofs.SectionBytes.{length-sectionBytes}
 
 module _ (space : Space) (tracks items : List Row) where

@@ -5,8 +5,8 @@ use native.Mathlib.Omega.{arith}
 use mathlib.Core.List.{List}
 use lib.ListN.{length, take, drop, length-append}
 use lib.Seq.{take-at}
-use Rattle.kinds.specs.Kinds.{spaceRow}
-use Rattle.kinds.specs.declared.space.Space.{Space}
+use Rattle.sheet_kinds.specs.Kinds.{spaceRow}
+use Rattle.sheet_kinds.specs.declared.space.Space.{Space}
 use Rattle.records.specs.Answer.{refusalFault, numberOf, placeOf}
 use Rattle.records.specs.declared.refusal.Refusal.{Refusal}
 use Rattle.sheet.specs.Rule.{Row, Fault, fine, fault, Sheet, sheetAt, sheetBytes, onto, sheetRead, ReadOutcome, readFault, readAs, readCall, sheetWritten, WriteOutcome, writeFault, writeAs, writeCall}

@@ -8,9 +8,9 @@ use Rattle.records.specs.declared.refusal.Refusal.{Refusal}
 use Rattle.records.specs.declared.refusal.Refusal.the-variants.{Short, BytesOver, Count, Tag, StrayNumber, TooFewPlaces}
 use Rattle.rows.proofs.KindRows.{space-of-row}
 use Rattle.sheet.specs.Rule.{ReadTold, sheetRead, readRefused, WriteTold, sheetWritten, writeRefused, EndTold, endAt, endRefused}
-use Rattle.kinds.specs.Kinds.{spaceOf}
+use Rattle.sheet_kinds.specs.Kinds.{spaceOf}
 use Rattle.sheet.specs.Answer.{readTold, writeTold, endTold}
-use Rattle.kinds.specs.declared.space.Space.{Space}
+use Rattle.sheet_kinds.specs.declared.space.Space.{Space}
 use Rattle.sheet.specs.declared.reading.ReadAnswer.{ReadAnswer}
 use Rattle.sheet.specs.declared.reading.ReadAnswer.the-variants as read
 use Rattle.sheet.specs.declared.writing.WriteAnswer.{WriteAnswer}

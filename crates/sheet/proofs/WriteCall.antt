@@ -12,7 +12,7 @@ use Rattle.records.proofs.Firsts.{first-where, fine-both, fine-test}
 use Rattle.sheet.specs.Rule.{Row, spaceRecord, rowFault, Fault, fine, fault, first, enough, Sheet, sheetBytes, onto, sheetWritten, writeRefused, writeOutcome, writeFault, writeAs, writeCall}
 use Rattle.sheet.specs.Answer.{sheetOf, writeLeaves}
 use Rattle.sheet.specs.Content.{contentFault, sheetSize, Looked, Writable}
-use Rattle.kinds.specs.declared.space.Space.{Space}
+use Rattle.sheet_kinds.specs.declared.space.Space.{Space}
 use Rattle.sheet.specs.declared.writing.WriteAnswer.the-variants as answer
 use Rattle.sheet.proofs.Content.{fault-of-space, content-fault, content-size, tracks-long, items-long}
 

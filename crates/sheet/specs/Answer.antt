@@ -5,8 +5,8 @@ use mathlib.Core.List.{List}
 use Rattle.records.specs.Answer.{numberOf, placeOf}
 use Rattle.sheet.specs.Rule.{Row, Part, Fault, first, spaceSection, trackSection, itemSection, twoAt, tracksAt, itemsAt, enough, Sheet, ReadTold, sheetRead, readRefused, ReadOutcome, readOutcome, WriteTold, sheetWritten, writeRefused, WriteOutcome, writeOutcome, EndTold, endAt, endRefused}
 use Rattle.sheet.specs.Rule as Rule
-use Rattle.kinds.specs.Kinds.{spaceRow}
-use Rattle.kinds.specs.declared.space.Space.{Space}
+use Rattle.sheet_kinds.specs.Kinds.{spaceRow}
+use Rattle.sheet_kinds.specs.declared.space.Space.{Space}
 use Rattle.sheet.specs.declared.sections.Section as code
 use Rattle.sheet.specs.declared.sections.Section.the-variants as sections
 use Rattle.sheet.specs.declared.reading.ReadAnswer.{ReadAnswer}

@@ -5,9 +5,9 @@ use Prim.Native.Nat.{ℕ, zero, suc, _+_, _*_}
 use mathlib.Core.Bool.{Bool}
 use mathlib.Core.List.{List, _++_}
 use lib.Dec.{leb, eqb}
-use lib.ListN.{length, drop}
+use lib.ListN.{length}
 use Rattle.rounds.specs.Rule.{mostTracks}
-pub use Rattle.records.specs.Rule.{byteAt, twoAt, fourAt, Tags, tags, constraintTags, givenTags, minimumTags, maximumTags, stretchBytes, Part, tagged, mark, pair, partSize, spaceRecord, trackRecord, itemRecord, Row, Fault, fine, fault, first, unless}
+pub use Rattle.records.specs.Rule.{byteAt, twoAt, fourAt, Tags, tags, constraintTags, givenTags, minimumTags, maximumTags, stretchBytes, Part, tagged, mark, pair, partSize, spaceRecord, trackRecord, itemRecord, Row, Fault, fine, fault, first, unless, enough, onto}
 unfoldable pub use Rattle.records.specs.Rule.{twoBytes, fourBytes, recordSize, rowAt, rowBytes, rowsAt, rowsBytes, isIn, taggedFault, rowFault}
 
 -- ---- Sections, each after its two-byte count
@@ -99,14 +99,6 @@ abbrev pub longest : ℕ
 longest = tracksAt + 2 + mostTracks * recordSize trackRecord + 2 + mostItems * recordSize itemRecord
 
 -- ---- The calls
-
--- 6: fewer places are lent than are wanted.
-abbrev pub enough : (wanted lent : ℕ) → Fault
-enough wanted lent = unless (leb wanted lent) (fault 6 0)
-
--- the first places of what was lent are these, the others keep what they hold
-abbrev pub onto : {A : Type 0} → List A → List A → List A
-onto new lent = new ++ drop (length new) lent
 
 -- What reading tells: the space and the two counts, or the refusal; and what stands in the lent rows after it.
 pub data ReadTold : Type 0 where

@@ -4,7 +4,7 @@ ghost use mathlib.Core.Bool.{true};
 ghost use Prim.Native.Nat.{_≤_};
 ghost use lib.ListN.{length};
 ghost use Rattle.texts.specs.Reading.{Onward};
-ghost use Rattle.kinds.specs.Kinds.{spaceRow};
+ghost use Rattle.sheet_kinds.specs.Kinds.{spaceRow};
 use crate::rows::read_tagged;
 use cases::Cursor;
 use cases::read_number;

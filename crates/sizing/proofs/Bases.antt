@@ -13,7 +13,7 @@ use Rattle.rounds.specs.Rule as fill
 use Rattle.rounds.proofs.Tied.{Fresh}
 use Rattle.rounds.proofs.Fresh.{sum-gains-add-left}
 use Rattle.lines.specs.declared.line.Line.{Line}
-use Rattle.kinds.specs.declared.space.Constraint.the-variants.{Definite}
+use Rattle.kinds.specs.declared.constraint.Constraint.the-variants.{Definite}
 use Rattle.lines.specs.Rule.{bases, grownBase, stretchTrack, stretched}
 use Rattle.lines.specs.Fits.{LinesFit}
 

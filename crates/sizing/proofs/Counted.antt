@@ -10,14 +10,13 @@ use Rattle.rounds.specs.Rule.{gainsOf, fill}
 use Rattle.rounds.specs.Rule as fill
 use Rattle.rounds.proofs.Fresh.{length-gains}
 use Rattle.kinds.specs.declared.item.Item.{Item}
-use Rattle.kinds.specs.declared.space.Constraint.{Constraint}
-use Rattle.kinds.specs.declared.space.Constraint.the-variants.{Definite, MinContent, MaxContent}
-use Rattle.kinds.specs.declared.space.Space.{Space}
+use Rattle.kinds.specs.declared.constraint.Constraint.{Constraint}
+use Rattle.kinds.specs.declared.constraint.Constraint.the-variants.{Definite, MinContent, MaxContent}
 use Rattle.kinds.specs.declared.track.Track.{Track}
 use Rattle.lines.specs.declared.line.Line.{Line}
 use Rattle.lines.specs.declared.limit.Limit.the-variants.{UpTo}
 use Rattle.lines.specs.declared.measured.Measured.{Measured}
-use Rattle.lines.specs.Rule.{Letter, withBase, withLimit, limitSize, bases, measuredItems, onFr, settled, startLine, start, inOneTrack, singles, grownBase, letters, raise, batched, inSpan, longer, lastBatch, missing, content, filledLines, maximiseTrack, maximise, stretchTrack, stretched, expansion, frFor, finish, placeOf, size}
+use Rattle.lines.specs.Rule.{Letter, withBase, withLimit, limitSize, bases, measuredItems, onFr, settled, startLine, start, inOneTrack, singles, grownBase, letters, raise, batched, inSpan, longer, lastBatch, missing, content, filledLines, maximiseTrack, maximise, stretchTrack, stretched, frFor, finish, placeOf, size}
 use Rattle.lines.proofs.Fits.{length-take-singles}
 use Rattle.letters.proofs.Keeps.{length-raise}
 use Rattle.flexible.proofs.Expanded.{length-expand}
@@ -65,18 +64,18 @@ length-stretched true (Definite n) ls = length-filled (n - bases ls) stretchTrac
 length-stretched true MinContent ls = refl
 length-stretched true MaxContent ls = refl
 
-length-finish : (s : Space) (ts : List Track) (is : List Measured) (ls : List Line) → length (finish s ts is ls) ≡ length ls
+length-finish : (e : Constraint) (asked : Bool) (ts : List Track) (is : List Measured) (ls : List Line) → length (finish e asked ts is ls) ≡ length ls
 unfolding finish
-length-finish s ts is ls = length-stretched (s .stretch) (expansion s) _ ∙ length-expand (frFor (expansion s) ts is ls) ls
+length-finish e asked ts is ls = length-stretched asked e _ ∙ length-expand (frFor e ts is ls) ls
 
 -- ---- the board
 
-pub length-size : (s : Space) (ts : List Track) (is : List Item) → length (size s ts is .places) ≡ length ts
+pub length-size : (c e : Constraint) (asked : Bool) (ts : List Track) (is : List Item) → length (size c e asked ts is .places) ≡ length ts
 unfolding size
-length-size s ts is =
+length-size c e asked ts is =
     let ms = measuredItems ts is in
-    let ls = content (s .constraint) ts ms in
-    length-map (finish s ts ms (maximise (s .constraint) ls .lines)) placeOf
-    ∙ length-finish s ts ms (maximise (s .constraint) ls .lines)
-    ∙ length-maximise (s .constraint) ls
-    ∙ length-content (s .constraint) ts ms
+    let ls = content c ts ms in
+    length-map (finish e asked ts ms (maximise c ls .lines)) placeOf
+    ∙ length-finish e asked ts ms (maximise c ls .lines)
+    ∙ length-maximise c ls
+    ∙ length-content c ts ms

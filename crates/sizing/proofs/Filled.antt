@@ -13,8 +13,8 @@ use Rattle.laws.specs.Sums.{sum}
 use Rattle.rounds.specs.Rule.{mostDots, gainsOf, Fill, fill}
 use Rattle.rounds.proofs.Fresh.{gain-add-left-le, length-gains}
 use Rattle.kinds.specs.Kinds.{Row}
-use Rattle.kinds.specs.declared.space.Constraint.{Constraint}
-use Rattle.kinds.specs.declared.space.Constraint.the-variants.{Definite, MinContent, MaxContent}
+use Rattle.kinds.specs.declared.constraint.Constraint.{Constraint}
+use Rattle.kinds.specs.declared.constraint.Constraint.the-variants.{Definite, MinContent, MaxContent}
 use Rattle.lines.specs.declared.line.Line.{Line}
 use Rattle.lines.specs.Rule.{bases, grownBase, filledLines, moreGains, maximiseTrack, maximise, stretchTrack, stretched}
 use Rattle.lines.specs.Rows.{lineOf, linesOf}

@@ -1,5 +1,6 @@
 -- Steps 6 and 7 from one to the next: what the lines keep between them, and that both together are the rule's. Assumes nothing.
 use mathlib.Core.Path.{_≡_, sym, ap, subst, _∙_}
+use mathlib.Core.Bool.{Bool}
 use mathlib.Core.List.{List}
 use Prim.Native.Nat.{ℕ, _≤_}
 use native.Mathlib.Omega.{arith}
@@ -8,14 +9,13 @@ use Rattle.laws.specs.Lists.{All, keep}
 use Rattle.laws.specs.Alls.{all-map}
 use Rattle.rounds.specs.Rule.{mostTracks, mostDots}
 use Rattle.kinds.specs.Kinds.{constraintNumber}
-use Rattle.kinds.specs.declared.space.Constraint.{Constraint}
-use Rattle.kinds.specs.declared.space.Space.{Space}
+use Rattle.kinds.specs.declared.constraint.Constraint.{Constraint}
 use Rattle.kinds.specs.declared.track.Track.{Track}
-use Rattle.checks.specs.Sound.{SpaceFits}
+use Rattle.spanned.specs.Sound.{ConstraintFits}
 use Rattle.lines.specs.declared.line.Line.{Line}
 use Rattle.lines.specs.declared.measured.Measured.{Measured}
 use Rattle.lines.specs.declared.fr.Fr.{Fr}
-use Rattle.lines.specs.Rule.{onFr, expansion, expand, stretched, finish}
+use Rattle.lines.specs.Rule.{onFr, expand, stretched, finish}
 use Rattle.lines.specs.Fits.{LinesFit, MeasuredFit}
 use Rattle.flexible.specs.Flexes.{frOver, mostGrown}
 use Rattle.flexible.proofs.Bounds.{fr-over-bounds}
@@ -25,9 +25,9 @@ use Rattle.sizing.specs.Size.{BasesFit, FreeFits, finishedLines}
 use Rattle.sizing.proofs.FreeFits.{free-fits}
 
 -- with the items on an fr track as the batch
-pub finished-is : (s : Space) (ts : List Track) (is : List Measured) (ls : List Line) → finishedLines s (keep (onFr ts) is) ls ≡ finish s ts is ls
+pub finished-is : (e : Constraint) (asked : Bool) (ts : List Track) (is : List Measured) (ls : List Line) → finishedLines e asked (keep (onFr ts) is) ls ≡ finish e asked ts is ls
 unfolding finish
-finished-is s ts is ls = ap (λ (fr : Fr). stretched (s .stretch) (expansion s) (expand fr ls)) (sym (fr-for-is (expansion s) ts is ls))
+finished-is e asked ts is ls = ap (λ (fr : Fr). stretched asked e (expand fr ls)) (sym (fr-for-is e ts is ls))
 
 -- a bound that leaves more room
 bases-fit : (ls : List Line) → All (λ (l : Line). l .base ≤ mostGrown) ls → BasesFit ls
@@ -43,12 +43,10 @@ flexed-fits e n batch ls grown flexed few f h m =
 
 -- ---- both steps
 
-pub finished : (s : Space) (e : Constraint) (batch : List Measured) (ls grown ends : List Line) → e ≡ expansion s → grown ≡ expand (frOver e batch ls) ls → ends ≡ stretched (s .stretch) e grown
-    → ends ≡ finishedLines s batch ls
-finished s e batch ls grown ends p g h =
-    h ∙ ap (stretched (s .stretch) e) g ∙ ap (λ (k : Constraint). stretched (s .stretch) k (expand (frOver k batch ls) ls)) p
+pub finished : (e : Constraint) (asked : Bool) (batch : List Measured) (ls grown ends : List Line) → grown ≡ expand (frOver e batch ls) ls → ends ≡ stretched asked e grown
+    → ends ≡ finishedLines e asked batch ls
+finished e asked batch ls grown ends g h = h ∙ ap (stretched asked e) g
 
-pub finished-free-fits : (s : Space) (e : Constraint) (batch : List Measured) (ls ends : List Line) → e ≡ expansion s → ends ≡ finishedLines s batch ls
-    → LinesFit ls → length ls ≤ mostTracks → SpaceFits s → FreeFits e ends
-finished-free-fits s e batch ls ends p h f few k =
-    subst (λ (c : Constraint). FreeFits c ends) (sym p) (subst (FreeFits (expansion s)) (sym h) (free-fits s batch ls f few k))
+pub finished-free-fits : (e : Constraint) (asked : Bool) (batch : List Measured) (ls ends : List Line) → ends ≡ finishedLines e asked batch ls
+    → LinesFit ls → length ls ≤ mostTracks → ConstraintFits e → FreeFits e ends
+finished-free-fits e asked batch ls ends h f few k = subst (FreeFits e) (sym h) (free-fits e asked batch ls f few k)

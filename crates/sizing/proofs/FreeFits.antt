@@ -3,7 +3,7 @@
 use mathlib.Core.Path.{_≡_, sym, ap, subst, _∙_}
 use mathlib.Core.Bool.{Bool}
 use mathlib.Core.List.{List, map}
-use Prim.Native.Nat.{ℕ, _+_, _≤_, zero-le}
+use Prim.Native.Nat.{ℕ, _+_, _≤_}
 use native.Mathlib.Omega.{arith}
 use lib.ListN.{length}
 use lib.IntN.{ℤ, subℕ}
@@ -12,40 +12,25 @@ use mir.Val.{toZ, ofZ}
 use mir.Facts.{toZ-ofZ}
 use Rattle.laws.specs.Sums.{sum}
 use Rattle.rounds.specs.Rule.{mostTracks, mostDots}
-use Rattle.kinds.specs.Kinds.{constraintNumber, amountNumber}
-use Rattle.kinds.specs.declared.amount.Amount.{Amount}
-use Rattle.kinds.specs.declared.amount.Amount.the-variants.{Absent, Given}
-use Rattle.kinds.specs.declared.space.Constraint.{Constraint}
-use Rattle.kinds.specs.declared.space.Constraint.the-variants.{Definite, MinContent, MaxContent}
-use Rattle.kinds.specs.declared.space.Space.{Space}
-use Rattle.checks.specs.Sound.{SpaceFits}
+use Rattle.kinds.specs.Kinds.{constraintNumber}
+use Rattle.kinds.specs.declared.constraint.Constraint.{Constraint}
+use Rattle.kinds.specs.declared.constraint.Constraint.the-variants.{Definite, MinContent, MaxContent}
+use Rattle.spanned.specs.Sound.{ConstraintFits}
 use Rattle.lines.specs.declared.line.Line.{Line}
 use Rattle.lines.specs.declared.measured.Measured.{Measured}
-use Rattle.lines.specs.Rule.{dots, bases, expansionOf, expansion, expand, stretched, freeOf}
+use Rattle.lines.specs.Rule.{dots, bases, expand, freeOf}
 use Rattle.lines.specs.Fits.{LinesFit}
-use Rattle.flexible.specs.Flexes.{definiteFr, frOver}
+use Rattle.flexible.specs.Flexes.{definiteFr}
 use Rattle.flexible.proofs.Growth.{bases-definite-le}
 use Rattle.sizing.specs.Size.{FreeFits, finishedLines}
 use Rattle.sizing.proofs.Bases.{bases-le, bases-stretched-le}
 use Rattle.sizing.proofs.Difference.{sub-fits}
 
-pub expansion-fits : (s : Space) → SpaceFits s → constraintNumber (expansion s) ≤ mostDots
-expansion-fits s f = go (s .inner) (s .constraint) (f .0) (f .1)
-  where
-    go : (a : Amount) (c : Constraint) → constraintNumber c ≤ mostDots → amountNumber a ≤ mostDots → constraintNumber (expansionOf a c) ≤ mostDots
-    go (Given n) c h k = k
-    go Absent (Definite n) h k = zero-le
-    go Absent MinContent h k = zero-le
-    go Absent MaxContent h k = zero-le
-
 -- no free space is below what 32 bits say; above, the space itself is small enough (free-asked)
-pub free-fits : (s : Space) (batch : List Measured) (ls : List Line) → LinesFit ls → length ls ≤ mostTracks → SpaceFits s → FreeFits (expansion s) (finishedLines s batch ls)
-free-fits s batch ls f few k = go (s .stretch) (expansion s) (expansion-fits s k)
-  where
-    go : (asked : Bool) (e : Constraint) → constraintNumber e ≤ mostDots → FreeFits e (stretched asked e (expand (frOver e batch ls) ls))
-    go asked (Definite n) h = omega (arith, bases-le ls f, bases-definite-le n ls, bases-stretched-le asked n (expand (definiteFr n ls) ls))
-    go asked MinContent h = tt
-    go asked MaxContent h = tt
+pub free-fits : (e : Constraint) (asked : Bool) (batch : List Measured) (ls : List Line) → LinesFit ls → length ls ≤ mostTracks → ConstraintFits e → FreeFits e (finishedLines e asked batch ls)
+free-fits (Definite n) asked batch ls f few h = omega (arith, bases-le ls f, bases-definite-le n ls, bases-stretched-le asked n (expand (definiteFr n ls) ls))
+free-fits MinContent asked batch ls f few h = tt
+free-fits MaxContent asked batch ls f few h = tt
 
 -- ---- as the code tells it, in a definite space of n dots
 

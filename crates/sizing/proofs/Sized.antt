@@ -1,18 +1,18 @@
 -- The whole sizing, put together from its steps. Assumes nothing.
 use mathlib.Core.Path.{_≡_, sym, ap, ap₂, _∙_, subst}
+use mathlib.Core.Bool.{Bool}
 use mathlib.Core.List.{List, map}
 use Prim.Native.Nat.{ℕ, _≤_}
 use native.Mathlib.Omega.{arith}
 use Rattle.laws.specs.Lists.{keep}
 use Rattle.laws.specs.Alls.{all-map}
 use Rattle.kinds.specs.Kinds.{Row}
-use Rattle.kinds.specs.declared.space.Constraint.{Constraint}
-use Rattle.kinds.specs.declared.space.Space.{Space}
+use Rattle.kinds.specs.declared.constraint.Constraint.{Constraint}
 use Rattle.kinds.specs.declared.track.Track.{Track}
 use Rattle.kinds.specs.declared.item.Item.{Item}
 use Rattle.lines.specs.declared.line.Line.{Line}
 use Rattle.lines.specs.declared.measured.Measured.{Measured}
-use Rattle.lines.specs.Rule.{measuredItems, onFr, content, Maximised, maximise, expansion, FreeTold, freeOf, placeOf, Board, boardAfter, finish, size}
+use Rattle.lines.specs.Rule.{measuredItems, onFr, content, Maximised, maximise, FreeTold, freeOf, placeOf, Board, boardAfter, finish, size}
 use Rattle.lines.specs.Fits.{LineFits, LinesFit}
 use Rattle.lines.proofs.Maximise.{Limited, missing-limited, maximise-fits}
 use Rattle.sizing.specs.Size.{freeTold, maximised, BasesFit, finishedLines}
@@ -36,12 +36,12 @@ maximised-fit c ts is ls out rounds e f m =
 abbrev told : ℕ → List Row → FreeTold → Board
 told n ps d = record { places = ps; free = d; rounds = n }
 
-pub sized : (s : Space) (ts : List Track) (is : List Item) (ls out : List Line) (batch : List Measured) (places : List Row) (free : Free) (rounds : ℕ)
-    → ls ≡ content (s .constraint) ts (measuredItems ts is) → maximised out rounds ≡ maximise (s .constraint) ls → batch ≡ keep (onFr ts) (measuredItems ts is)
-    → freeTold free ≡ freeOf (expansion s) (finishedLines s batch out) → places ≡ map placeOf (finishedLines s batch out)
-    → told rounds places (freeTold free) ≡ size s ts is
+pub sized : (c e : Constraint) (asked : Bool) (ts : List Track) (is : List Item) (ls out : List Line) (batch : List Measured) (places : List Row) (free : Free) (rounds : ℕ)
+    → ls ≡ content c ts (measuredItems ts is) → maximised out rounds ≡ maximise c ls → batch ≡ keep (onFr ts) (measuredItems ts is)
+    → freeTold free ≡ freeOf e (finishedLines e asked batch out) → places ≡ map placeOf (finishedLines e asked batch out)
+    → told rounds places (freeTold free) ≡ size c e asked ts is
 unfolding size
-sized s ts is ls out batch places free rounds e m b f p =
-    let done : finishedLines s batch out ≡ finish s ts (measuredItems ts is) out = ap (λ (k : List Measured). finishedLines s k out) b ∙ finished-is s ts (measuredItems ts is) out in
-    ap₂ (told rounds) (p ∙ ap (map placeOf) done) (f ∙ ap (freeOf (expansion s)) done)
-    ∙ ap (boardAfter s ts (measuredItems ts is)) (m ∙ ap (maximise (s .constraint)) e)
+sized c e asked ts is ls out batch places free rounds q m b f p =
+    let done : finishedLines e asked batch out ≡ finish e asked ts (measuredItems ts is) out = ap (λ (k : List Measured). finishedLines e asked k out) b ∙ finished-is e asked ts (measuredItems ts is) out in
+    ap₂ (told rounds) (p ∙ ap (map placeOf) done) (f ∙ ap (freeOf e) done)
+    ∙ ap (boardAfter e asked ts (measuredItems ts is)) (m ∙ ap (maximise c) q)

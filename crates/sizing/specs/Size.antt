@@ -1,18 +1,18 @@
 -- What the sizing asks of a board that has passed the checks, and its free space in the words of the rule. Assumes nothing.
 use Prim.Native.Nat.{ℕ, _+_, _≤_}
+use mathlib.Core.Bool.{Bool}
 use mathlib.Core.List.{List, map}
 use lib.ListN.{length}
 use Rattle.rounds.specs.Rule.{mostTracks}
 use Rattle.kinds.specs.Kinds.{Row, trackOf, itemOf}
-use Rattle.kinds.specs.declared.space.Space.{Space}
-use Rattle.checks.specs.Sound.{Sound}
+use Rattle.spanned.specs.Sound.{ConstraintFits, Sound}
 use Rattle.laws.specs.Lists.{All}
 use Rattle.lines.specs.declared.line.Line.{Line}
-use Rattle.lines.specs.Rule.{FreeTold, none, dots, Board, Maximised, bases, expansion, expand, stretched, size}
+use Rattle.lines.specs.Rule.{FreeTold, none, dots, Board, Maximised, bases, expand, stretched, size}
 use Rattle.lines.specs.declared.measured.Measured.{Measured}
 use Rattle.flexible.specs.Flexes.{frOver}
-use Rattle.kinds.specs.declared.space.Constraint.{Constraint}
-use Rattle.kinds.specs.declared.space.Constraint.the-variants.{Definite, MinContent, MaxContent}
+use Rattle.kinds.specs.declared.constraint.Constraint.{Constraint}
+use Rattle.kinds.specs.declared.constraint.Constraint.the-variants.{Definite, MinContent, MaxContent}
 use Rattle.sizing.specs.declared.free.Free.{Free}
 use Rattle.sizing.specs.declared.free.Free.the-variants as free
 use Rattle.sizing.specs.declared.Sizes.{Sizes}
@@ -21,17 +21,19 @@ abbrev pub freeTold : Free → FreeTold
 freeTold free.None = none
 freeTold (free.Dots d) = dots d
 
--- no fault, and no more tracks than a board has
-pub record Sizable (space : Space) (tracks items : List Row) : Type 0 where
+-- no number over its limit, every item on tracks that are there, and no more tracks than a board has
+pub record Sizable (constraint expansion : Constraint) (tracks items : List Row) : Type 0 where
   pub few : length tracks ≤ mostTracks
-  pub sound : Sound space (map trackOf tracks) (map itemOf items)
+  pub constraint-fits : ConstraintFits constraint
+  pub expansion-fits : ConstraintFits expansion
+  pub sound : Sound (map trackOf tracks) (map itemOf items)
 
 -- sizes and places as the rule's board has them
 abbrev pub boardOf : Sizes → List Row → Board
 boardOf sizes places = record { places = places; free = freeTold (sizes .free); rounds = sizes .rounds }
 
-abbrev pub sizeRows : Space → List Row → List Row → Board
-sizeRows space tracks items = size space (map trackOf tracks) (map itemOf items)
+abbrev pub sizeRows : (constraint expansion : Constraint) (asked : Bool) → List Row → List Row → Board
+sizeRows constraint expansion asked tracks items = size constraint expansion asked (map trackOf tracks) (map itemOf items)
 
 -- a line and what step 5 may say of it
 abbrev pub maximised : List Line → ℕ → Maximised
@@ -48,5 +50,5 @@ FreeFits MinContent ls = Unit {0}
 FreeFits MaxContent ls = Unit {0}
 
 -- steps 6 and 7 with the batch of the items on an fr track
-abbrev pub finishedLines : Space → List Measured → List Line → List Line
-finishedLines s batch ls = stretched (s .stretch) (expansion s) (expand (frOver (expansion s) batch ls) ls)
+abbrev pub finishedLines : (expansion : Constraint) (asked : Bool) → List Measured → List Line → List Line
+finishedLines e asked batch ls = stretched asked e (expand (frOver e batch ls) ls)

@@ -3,9 +3,7 @@ use crate::dots::stretch;
 use crate::free::Free;
 use crate::free::difference;
 use flexible::flex;
-use kinds::Amount;
 use kinds::Constraint;
-use kinds::Space;
 use letters::Letter;
 use letters::present_total;
 use lines::Line;
@@ -15,28 +13,12 @@ ghost use Prim.Native.Nat.{_≤_};
 ghost use lib.ListN.{length, replicate};
 ghost use Rattle.rounds.specs.Rule.{mostTracks, mostDots};
 ghost use Rattle.kinds.specs.Kinds.{constraintNumber};
-ghost use Rattle.lines.specs.Rule.{expansion, freeOf, placeOf};
+ghost use Rattle.lines.specs.Rule.{freeOf, placeOf};
 ghost use Rattle.lines.specs.Rows.{linesOf};
-ghost use Rattle.checks.specs.Sound.{SpaceFits};
+ghost use Rattle.spanned.specs.Sound.{ConstraintFits};
 ghost use Rattle.lines.specs.Fits.{LinesFit};
 ghost use Rattle.lines.specs.Chains.{chained, ChainFits};
 ghost use Rattle.sizing.specs.Size.{freeTold, FreeFits, finishedLines};
-
-// The inner size if given; without it, definite becomes max-content and the others stay.
-pub(crate) fn expansion(space: Space) -> Constraint
-    ensures { λ r. ⌜ r ≡ expansion space ⌝ }
-{
-    let inner = space.inner;
-    let constraint = space.constraint;
-    match inner {
-        Amount::Given(n) => Constraint::Definite(n),
-        Amount::Absent => match constraint {
-            Constraint::Definite(_) => Constraint::MaxContent,
-            Constraint::MinContent => Constraint::MinContent,
-            Constraint::MaxContent => Constraint::MaxContent,
-        },
-    }
-}
 
 pub(crate) fn free_of(expansion: Constraint, lines: &[[u32; 8]]) -> Free
     requires { ⌜ (length (now lines) ≤ mostTracks) × (constraintNumber expansion ≤ mostDots) × FreeFits expansion (linesOf (now lines)) ⌝ }
@@ -67,7 +49,8 @@ pub(crate) fn write_places(lines: &[[u32; 8]], places: &mut [[u32; 2]])
 
 // Steps 6 and 7, then the places; the free space comes back. `first` heads the chain of the items on an fr track.
 pub(crate) fn finish(
-    space: Space,
+    expansion: Constraint,
+    asked: bool,
     first: usize,
     nexts: &[usize],
     items: &[[u32; 7]],
@@ -77,13 +60,12 @@ pub(crate) fn finish(
     held: &mut [bool],
     places: &mut [[u32; 2]],
 ) -> Free
-    requires { ⌜ SpaceFits space × (length (now lines) ≤ mostTracks) × LinesFit (linesOf (now lines)) × ChainFits (length (now lines)) (now items) (now nexts) first × (now increases ≡ replicate (length (now lines)) 0) × (length (now rests) ≡ length (now lines)) × (length (now held) ≡ length (now lines)) × (length (now places) ≡ length (now lines)) ⌝ }
-    ensures { λ r. ⌜ (freeTold r ≡ freeOf (expansion space) (finishedLines space (chained (now (items .entry)) (now (nexts .entry)) first) (linesOf (now (lines .entry))))) × (now (places .exit) ≡ map placeOf (finishedLines space (chained (now (items .entry)) (now (nexts .entry)) first) (linesOf (now (lines .entry))))) ⌝ }
+    requires { ⌜ ConstraintFits expansion × (length (now lines) ≤ mostTracks) × LinesFit (linesOf (now lines)) × ChainFits (length (now lines)) (now items) (now nexts) first × (now increases ≡ replicate (length (now lines)) 0) × (length (now rests) ≡ length (now lines)) × (length (now held) ≡ length (now lines)) × (length (now places) ≡ length (now lines)) ⌝ }
+    ensures { λ r. ⌜ (freeTold r ≡ freeOf expansion (finishedLines expansion asked (chained (now (items .entry)) (now (nexts .entry)) first) (linesOf (now (lines .entry))))) × (now (places .exit) ≡ map placeOf (finishedLines expansion asked (chained (now (items .entry)) (now (nexts .entry)) first) (linesOf (now (lines .entry))))) ⌝ }
 {
-    let e = expansion(space);
     let total = present_total(Letter::A, lines);
-    flex(e, total, first, nexts, items, lines, held);
-    stretch(space.stretch, e, lines, increases, rests);
+    flex(expansion, total, first, nexts, items, lines, held);
+    stretch(asked, expansion, lines, increases, rests);
     write_places(lines, places);
-    free_of(e, lines)
+    free_of(expansion, lines)
 }

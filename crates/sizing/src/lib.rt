@@ -11,8 +11,8 @@ use content::content;
 use dots::maximise;
 use finish::finish;
 pub use free::Free;
+use kinds::Constraint;
 use kinds::Item;
-use kinds::Space;
 use kinds::Track;
 ghost use mathlib.Core.Path.{_≡_};
 ghost use Prim.Native.Nat.{_≤_};
@@ -24,26 +24,35 @@ pub struct Sizes {
     pub rounds: u32,
 }
 
-// Base and limit of each track go to its place.
-pub fn size(space: Space, tracks: &[[u32; 4]], items: &[[u32; 7]], places: &mut [[u32; 2]]) -> Sizes
-    requires { ⌜ Sizable space (now tracks) (now items) × (length (now items) ≤ 1024) × (length (now places) ≡ length (now tracks)) ⌝ }
-    ensures { λ r. ⌜ boardOf r (now (places .exit)) ≡ sizeRows space (now (tracks .entry)) (now (items .entry)) ⌝ }
-{
-    if tracks.len() <= FEW && items.len() <= FEW {
-        return size_small(space, tracks, items, places);
-    }
-    size_large(space, tracks, items, places)
-}
-
-// In a store for few tracks and items.
-fn size_small(
-    space: Space,
+// Base and limit of each track go to its place. `asked` says whether to stretch.
+pub fn size(
+    constraint: Constraint,
+    expansion: Constraint,
+    asked: bool,
     tracks: &[[u32; 4]],
     items: &[[u32; 7]],
     places: &mut [[u32; 2]],
 ) -> Sizes
-    requires { ⌜ Sizable space (now tracks) (now items) × (length (now tracks) ≤ 64) × (length (now items) ≤ 64) × (length (now places) ≡ length (now tracks)) ⌝ }
-    ensures { λ r. ⌜ boardOf r (now (places .exit)) ≡ sizeRows space (now (tracks .entry)) (now (items .entry)) ⌝ }
+    requires { ⌜ Sizable constraint expansion (now tracks) (now items) × (length (now items) ≤ 1024) × (length (now places) ≡ length (now tracks)) ⌝ }
+    ensures { λ r. ⌜ boardOf r (now (places .exit)) ≡ sizeRows constraint expansion asked (now (tracks .entry)) (now (items .entry)) ⌝ }
+{
+    if tracks.len() <= FEW && items.len() <= FEW {
+        return size_small(constraint, expansion, asked, tracks, items, places);
+    }
+    size_large(constraint, expansion, asked, tracks, items, places)
+}
+
+// In a store for few tracks and items.
+fn size_small(
+    constraint: Constraint,
+    expansion: Constraint,
+    asked: bool,
+    tracks: &[[u32; 4]],
+    items: &[[u32; 7]],
+    places: &mut [[u32; 2]],
+) -> Sizes
+    requires { ⌜ Sizable constraint expansion (now tracks) (now items) × (length (now tracks) ≤ 64) × (length (now items) ≤ 64) × (length (now places) ≡ length (now tracks)) ⌝ }
+    ensures { λ r. ⌜ boardOf r (now (places .exit)) ≡ sizeRows constraint expansion asked (now (tracks .entry)) (now (items .entry)) ⌝ }
 {
     let mut heads = [0usize; BATCHES];
     let mut nexts = [0usize; FEW];
@@ -55,7 +64,9 @@ fn size_small(
     let n = tracks.len();
     let m = items.len();
     size_with(
-        space,
+        constraint,
+        expansion,
+        asked,
         tracks,
         items,
         &mut heads,
@@ -71,13 +82,15 @@ fn size_small(
 
 // In a store for the tracks and items of any board.
 fn size_large(
-    space: Space,
+    constraint: Constraint,
+    expansion: Constraint,
+    asked: bool,
     tracks: &[[u32; 4]],
     items: &[[u32; 7]],
     places: &mut [[u32; 2]],
 ) -> Sizes
-    requires { ⌜ Sizable space (now tracks) (now items) × (length (now tracks) ≤ 256) × (length (now items) ≤ 1024) × (length (now places) ≡ length (now tracks)) ⌝ }
-    ensures { λ r. ⌜ boardOf r (now (places .exit)) ≡ sizeRows space (now (tracks .entry)) (now (items .entry)) ⌝ }
+    requires { ⌜ Sizable constraint expansion (now tracks) (now items) × (length (now tracks) ≤ 256) × (length (now items) ≤ 1024) × (length (now places) ≡ length (now tracks)) ⌝ }
+    ensures { λ r. ⌜ boardOf r (now (places .exit)) ≡ sizeRows constraint expansion asked (now (tracks .entry)) (now (items .entry)) ⌝ }
 {
     let mut heads = [0usize; BATCHES];
     let mut nexts = [0usize; Item::MOST];
@@ -89,7 +102,9 @@ fn size_large(
     let n = tracks.len();
     let m = items.len();
     size_with(
-        space,
+        constraint,
+        expansion,
+        asked,
         tracks,
         items,
         &mut heads,
@@ -105,7 +120,9 @@ fn size_large(
 
 // With a working store: a line, an increase and scratch beside each track, a head for each batch, a next beside each item.
 fn size_with(
-    space: Space,
+    constraint: Constraint,
+    expansion: Constraint,
+    asked: bool,
     tracks: &[[u32; 4]],
     items: &[[u32; 7]],
     heads: &mut [usize],
@@ -117,10 +134,9 @@ fn size_with(
     held: &mut [bool],
     places: &mut [[u32; 2]],
 ) -> Sizes
-    requires { ⌜ Sizable space (now tracks) (now items) × (length (now heads) ≡ 258) × (length (now nexts) ≡ length (now items)) × (length (now lines) ≡ length (now tracks)) × (now increases ≡ replicate (length (now tracks)) 0) × (length (now gains) ≡ length (now tracks)) × (length (now rests) ≡ length (now tracks)) × (length (now held) ≡ length (now tracks)) × (length (now places) ≡ length (now tracks)) ⌝ }
-    ensures { λ r. ⌜ boardOf r (now (places .exit)) ≡ sizeRows space (now (tracks .entry)) (now (items .entry)) ⌝ }
+    requires { ⌜ Sizable constraint expansion (now tracks) (now items) × (length (now heads) ≡ 258) × (length (now nexts) ≡ length (now items)) × (length (now lines) ≡ length (now tracks)) × (now increases ≡ replicate (length (now tracks)) 0) × (length (now gains) ≡ length (now tracks)) × (length (now rests) ≡ length (now tracks)) × (length (now held) ≡ length (now tracks)) × (length (now places) ≡ length (now tracks)) ⌝ }
+    ensures { λ r. ⌜ boardOf r (now (places .exit)) ≡ sizeRows constraint expansion asked (now (tracks .entry)) (now (items .entry)) ⌝ }
 {
-    let constraint = space.constraint;
     content(
         constraint,
         tracks,
@@ -135,7 +151,8 @@ fn size_with(
     let rounds = maximise(constraint, lines, increases, rests);
     let first = heads[LAST];
     let free = finish(
-        space,
+        expansion,
+        asked,
         first,
         nexts,
         items,

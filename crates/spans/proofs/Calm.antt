@@ -10,8 +10,8 @@ use lib.Dec.{ltb, eqb}
 use lib.ListN.{length, replicate}
 use Rattle.laws.specs.Lists.{All, inTurn, changeAt}
 use Rattle.laws.specs.Alls.{all-map, all-image, image-all}
-use Rattle.kinds.specs.declared.space.Constraint.{Constraint}
-use Rattle.kinds.specs.declared.space.Constraint.the-variants.{Definite, MinContent, MaxContent}
+use Rattle.kinds.specs.declared.constraint.Constraint.{Constraint}
+use Rattle.kinds.specs.declared.constraint.Constraint.the-variants.{Definite, MinContent, MaxContent}
 use Rattle.kinds.specs.declared.track.Track.{Track}
 use Rattle.lines.specs.declared.limit.Limit.{Limit}
 use Rattle.lines.specs.declared.limit.Limit.the-variants.{None, UpTo}

@@ -8,7 +8,7 @@ use Rattle.laws.specs.Lists.{All, inTurn}
 use Rattle.laws.specs.Alls.{all-image-at}
 use Rattle.rounds.specs.Rule.{mostTracks}
 use Rattle.kinds.specs.Kinds.{Row}
-use Rattle.kinds.specs.declared.space.Constraint.{Constraint}
+use Rattle.kinds.specs.declared.constraint.Constraint.{Constraint}
 use Rattle.lines.specs.declared.limit.Limit.{Limit}
 use Rattle.lines.specs.declared.line.Line.{Line}
 use Rattle.lines.specs.declared.measured.Measured.{Measured}

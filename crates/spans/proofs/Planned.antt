@@ -11,7 +11,7 @@ use Rattle.laws.specs.Lists.{some, larger, largerFrom}
 use Rattle.laws.specs.Sums.{sum}
 use Rattle.rounds.specs.Rule.{mostTracks, mostDots}
 use Rattle.kinds.specs.Kinds.{Row}
-use Rattle.kinds.specs.declared.space.Constraint.{Constraint}
+use Rattle.kinds.specs.declared.constraint.Constraint.{Constraint}
 use Rattle.lines.specs.declared.line.Line.{Line}
 use Rattle.lines.specs.declared.measured.Measured.{Measured}
 use Rattle.lines.specs.Rule.{spanned, shares, extraOf, gainsBy, increasedBy}

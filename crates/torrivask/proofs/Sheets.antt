@@ -4,8 +4,8 @@ use Prim.Native.Nat.{ℕ}
 use mathlib.Core.Path.{_≡_, refl, sym, ap, _∙_}
 use mathlib.Core.List.{List}
 use lib.ListN.{length}
-use Rattle.kinds.specs.Kinds.{spaceRow, spaceOf}
-use Rattle.kinds.specs.declared.space.Space.{Space}
+use Rattle.sheet_kinds.specs.Kinds.{spaceRow, spaceOf}
+use Rattle.sheet_kinds.specs.declared.space.Space.{Space}
 use Rattle.records.specs.Answer.{numberOf, placeOf, refusalFault, faultOf}
 use Rattle.records.specs.declared.refusal.Refusal.{Refusal}
 use Rattle.records.specs.declared.refusal.Fault.{Fault}

@@ -2,7 +2,7 @@
 use borrow.Author.Needs.{needs}
 use Rattle.flexible.proofs.fr_over.Statement.{statement}
 use mathlib.Core.Path.{sym, ap, refl, _∙_}
-use Rattle.kinds.specs.declared.space.Constraint.{Constraint}
+use Rattle.kinds.specs.declared.constraint.Constraint.{Constraint}
 use Rattle.lines.specs.Rows.{linesOf}
 use Rattle.lines.specs.Chains.{chained}
 use Rattle.flexible.specs.Flexes.{frOver}

@@ -39,7 +39,7 @@ maximise-requires c κs =
     let same : length ls ≡ length (a .lines .now) = search needs in
     let few = z .few in
     let rows = s .pre .3 in
-    (omega arith, z .sound .space .0, bases-fit (linesOf ls) (e .1), zeros-as {m = length (a .lines .now)} {n = length ls} (e .3) (sym same), search needs)
+    (omega arith, z .constraint-fits, bases-fit (linesOf ls) (e .1), zeros-as {m = length (a .lines .now)} {n = length ls} (e .3) (sym same), search needs)
 
 slice-read-first : tie.Need-slice-read-first
 slice-read-first c = search needs
@@ -66,9 +66,9 @@ finish-requires c κs =
     let rows = s .pre .3 in
     let items = z .sound .items in
     let all : length ts ≤ 256 = omega arith in (
-      z .sound .space,
+      z .expansion-fits,
       omega arith,
-      maximised-fit (a .space .constraint) ts (measuredItems ts (map itemOf (a .items .now))) (linesOf ls) (linesOf out) _ (e .0) (e .1) (m .0),
+      maximised-fit (a .constraint) ts (measuredItems ts (map itemOf (a .items .now))) (linesOf ls) (linesOf out) _ (e .0) (e .1) (m .0),
       chain-fits-as (a .items .now) _ _ (same2 ∙ same ∙ rows ∙ sym long) (gathered-fits ts (a .items .now) _ _ all items (search needs) (e .2) 257 (omega arith) (omega arith)),
       zeros-as {m = length ls} {n = length out} (m .1) (sym same2),
       search needs,
@@ -115,7 +115,7 @@ returns c =
     let all : length ts ≤ 256 = omega arith in
     let at = c .before .before .before .before .before .before .before .before .before .before .before .before .before .before .before .before .before .before .before .before .before .before .before .before .before .before .before .before .before .before .before .before .before .before .before .before .content .last in
     let out = c .before .before .before .before .before .before .before .before .before .before .before .before .before .before .before .before .before .before .before .before .before .maximise .last .1 .0 in
-    sized (a .space) ts (map itemOf (a .items .now)) (linesOf (at .1 .1 .1 .1 .1 .0)) (linesOf out) (chained (a .items .now) (at .1 .1 .1 .1 .0) (getD (at .1 .1 .1 .0) 257 0)) (c .before .before .before .before .before .before .before .before .finish .last .1 .1 .1 .1 .1 .1 .1 .1 .0) (c .before .before .before .before .before .before .before .before .finish .result) (c .before .before .before .before .before .before .before .before .before .before .before .before .before .before .before .before .before .before .before .before .before .maximise .result) (e .0) (m .0) (gathered-last ts (a .items .now) _ _ all (z .sound .items) (search needs) (e .2)) (f .0) (f .1)
+    sized (a .constraint) (a .expansion) (a .asked) ts (map itemOf (a .items .now)) (linesOf (at .1 .1 .1 .1 .1 .0)) (linesOf out) (chained (a .items .now) (at .1 .1 .1 .1 .0) (getD (at .1 .1 .1 .0) 257 0)) (c .before .before .before .before .before .before .before .before .finish .last .1 .1 .1 .1 .1 .1 .1 .1 .1 .0) (c .before .before .before .before .before .before .before .before .finish .result) (c .before .before .before .before .before .before .before .before .before .before .before .before .before .before .before .before .before .before .before .before .before .maximise .result) (e .0) (m .0) (gathered-last ts (a .items .now) _ _ all (z .sound .items) (search needs) (e .2)) (f .0) (f .1)
 
 pub size-with-spec : {M : Type 1} → statement M
 size-with-spec =

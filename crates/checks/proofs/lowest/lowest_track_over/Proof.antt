@@ -5,14 +5,14 @@ use mathlib.Core.Path.{_≡_, refl, ap, _∙_}
 use mathlib.Core.List.{[]}
 use Prim.Native.Nat.{_-_, _≤_}
 use lib.ListN.{length}
-use Rattle.kinds.specs.Kinds.{trackOf}
+use Rattle.sheet_kinds.specs.Kinds.{sheetTrackOf}
 use Rattle.checks.specs.Rule.{trackOver}
 use Rattle.checks.proofs.LowestWalk.{lowestFrom, lowest-found, lowest-passed, lowest-end, lowestOf}
 use Rattle.checks.proofs.lowest.lowest_track_over.Statement.{statement}
 use Rattle.checks.proofs.lowest.lowest_track_over.Tie as tie
 
 abbrev Inv-loop : tie.InvT-loop
-Inv-loop tracks t₀ t = (t ≤ length tracks) × (lowestFrom 7 trackOver trackOf 1 tracks t ≡ lowestOf 7 trackOver trackOf 1 tracks)
+Inv-loop tracks t₀ t = (t ≤ length tracks) × (lowestFrom 7 trackOver sheetTrackOf 1 tracks t ≡ lowestOf 7 trackOver sheetTrackOf 1 tracks)
 
 abbrev μ-loop : tie.MeasureT-loop
 μ-loop tracks t₀ t = length tracks - t
@@ -40,7 +40,7 @@ returns c =
     let test = c .before in
     let turn = test .before .before .before in
     let told = test .track-over .ensures ∙ ap trackOver (test .before .of-row .ensures) in
-    lowest-found 7 trackOver trackOf 1 (turn .before .before .args .tracks .now) (turn .before .loop .t) [] (turn .loop-test .taken) told (c .if1 .taken)
+    lowest-found 7 trackOver sheetTrackOf 1 (turn .before .before .args .tracks .now) (turn .before .loop .t) [] (turn .loop-test .taken) told (c .if1 .taken)
     ∙ turn .before .loop .inv .1
 
 add-t : tie.Need-add-t Inv-loop μ-loop
@@ -55,14 +55,14 @@ loop-again c =
     let turn = test .before .before .before in
     let told = test .track-over .ensures ∙ ap trackOver (test .before .of-row .ensures) in (
       search needs,
-      lowest-passed 7 trackOver trackOf 1 (turn .before .before .args .tracks .now) (turn .before .loop .t) [] (turn .loop-test .taken) told (c .if1 .left)
+      lowest-passed 7 trackOver sheetTrackOf 1 (turn .before .before .args .tracks .now) (turn .before .loop .t) [] (turn .loop-test .taken) told (c .if1 .left)
           ∙ turn .before .loop .inv .1,
     )
 
 returns-2 : tie.Need-returns-2 Inv-loop μ-loop
 returns-2 c =
     let head = c .before in
-    lowest-end 7 trackOver trackOf 1 (head .before .args .tracks .now) (head .loop .t) (c .loop-test .left) ∙ head .loop .inv .1
+    lowest-end 7 trackOver sheetTrackOf 1 (head .before .args .tracks .now) (head .loop .t) (c .loop-test .left) ∙ head .loop .inv .1
 
 pub lowest-track-over-spec : {M : Type 1} → statement M
 lowest-track-over-spec =

@@ -2,7 +2,7 @@
 use borrow.Author.Needs.{needs}
 use Rattle.letters.proofs.contribution.for_auto.Statement.{statement}
 use mathlib.Core.Path.{sym, ap, _∙_}
-use Rattle.kinds.specs.declared.space.Constraint.{Constraint}
+use Rattle.kinds.specs.declared.constraint.Constraint.{Constraint}
 use Rattle.lines.specs.Rule.{forAuto}
 use Rattle.lines.specs.Rows.{linesOf}
 use Rattle.letters.proofs.contribution.for_auto.Tie as tie

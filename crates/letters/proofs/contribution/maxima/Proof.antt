@@ -4,7 +4,7 @@ use Rattle.letters.proofs.contribution.maxima.Statement.{statement}
 use mathlib.Core.Path.{_≡_, sym, ap, _∙_}
 use Prim.Native.Nat.{_-_, _*_, _≤_, zero-le}
 use lib.ListN.{length}
-use Rattle.checks.specs.Rule.{mostSize}
+use Rattle.spanned.specs.Rule.{mostSize}
 use Rattle.lines.specs.Rule.{maxima}
 use Rattle.lines.specs.declared.line.Line.{Line}
 use Rattle.lines.specs.Rows.{linesOf}

@@ -5,7 +5,7 @@ use Rattle.sheet.proofs.ReadCall.{read-refused, readable, read-done}
 use mathlib.Core.Path.{sym, ap, _∙_}
 use Rattle.sheet.specs.Rule.{recordSize}
 use native.Mathlib.Omega.{arith}
-use Rattle.kinds.specs.Kinds.{spaceOf}
+use Rattle.sheet_kinds.specs.Kinds.{spaceOf}
 use Rattle.sheet.proofs.reading.read.Statement.{statement}
 use Rattle.sheet.proofs.reading.read.Tie as tie
 

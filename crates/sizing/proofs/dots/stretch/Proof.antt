@@ -6,7 +6,7 @@ use mathlib.Core.Bool.{Bool}
 use native.Mathlib.Omega.{arith}
 use borrow.Author.Tests.{not-false}
 use Rattle.kinds.specs.Kinds.{constraintNumber}
-use Rattle.kinds.specs.declared.space.Constraint.{Constraint}
+use Rattle.kinds.specs.declared.constraint.Constraint.{Constraint}
 use Rattle.lines.specs.Rule.{stretched}
 use Rattle.lines.specs.Rows.{linesOf}
 use Rattle.sizing.proofs.Filled.{stretch-definite, stretch-not-asked, stretch-min-content, stretch-max-content}

@@ -1,0 +1,21 @@
+-- The expansion space of a space within its limit is within it too. Assumes nothing.
+use Prim.Native.Nat.{_≤_, zero-le}
+use Rattle.rounds.specs.Rule.{mostDots}
+use Rattle.kinds.specs.Kinds.{constraintNumber, amountNumber}
+use Rattle.kinds.specs.declared.amount.Amount.{Amount}
+use Rattle.kinds.specs.declared.amount.Amount.the-variants.{Absent, Given}
+use Rattle.kinds.specs.declared.constraint.Constraint.{Constraint}
+use Rattle.kinds.specs.declared.constraint.Constraint.the-variants.{Definite, MinContent, MaxContent}
+use Rattle.sheet_kinds.specs.Rule.{expansionOf, expansion}
+use Rattle.sheet_kinds.specs.declared.space.Space.{Space}
+use Rattle.spanned.specs.Sound.{ConstraintFits}
+use Rattle.checks.specs.Fits.{SpaceFits}
+
+pub expansion-fits : (s : Space) → SpaceFits s → ConstraintFits (expansion s)
+expansion-fits s f = go (s .inner) (s .constraint) (f .0) (f .1)
+  where
+    go : (a : Amount) (c : Constraint) → constraintNumber c ≤ mostDots → amountNumber a ≤ mostDots → ConstraintFits (expansionOf a c)
+    go (Given n) c h k = k
+    go Absent (Definite n) h k = zero-le
+    go Absent MinContent h k = zero-le
+    go Absent MaxContent h k = zero-le

@@ -1,0 +1,30 @@
+// What refuses a layout: the lent places, or a record; with the paper's number and place of each.
+ghost use mathlib.Core.Path.{_≡_};
+ghost use Rattle.layout.specs.Answer.{numberOf, placeOf};
+
+pub enum Refusal {
+    // 6: fewer places than tracks.
+    TooFewPlaces,
+    // 7 to 11.
+    Record(checks::Refusal),
+}
+
+impl Refusal {
+    pub fn number(self) -> u32
+        ensures { λ r. ⌜ r ≡ numberOf self ⌝ }
+    {
+        match self {
+            Refusal::TooFewPlaces => 6,
+            Refusal::Record(refusal) => refusal.number(),
+        }
+    }
+
+    pub fn place(self) -> usize
+        ensures { λ r. ⌜ r ≡ placeOf self ⌝ }
+    {
+        match self {
+            Refusal::TooFewPlaces => 0,
+            Refusal::Record(refusal) => refusal.place(),
+        }
+    }
+}

@@ -1,0 +1,9 @@
+// What a sheet says of its space and of a track, as types (specs/Kinds.antt), and what the sizing reads of them (specs/Rule.antt). They
+// know of rows, and of no byte.
+mod space;
+mod track;
+
+pub use space::Space;
+pub use track::SheetMaximum;
+pub use track::SheetMinimum;
+pub use track::SheetTrack;

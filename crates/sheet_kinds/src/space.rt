@@ -1,0 +1,68 @@
+// The space: what it asks of the board, its inner size, whether it stretches; and its limit.
+use kinds::Amount;
+use kinds::Constraint;
+ghost use mathlib.Core.Path.{_≡_};
+ghost use Rattle.laws.specs.Marks.{bit};
+ghost use Rattle.sheet_kinds.specs.Kinds.{spaceOf, spaceRow};
+ghost use Rattle.sheet_kinds.specs.Rule.{expansion};
+
+fn bit(mark: bool) -> u32
+    ensures { λ r. ⌜ r ≡ bit mark ⌝ }
+{
+    if mark { 1 } else { 0 }
+}
+
+pub struct Space {
+    pub constraint: Constraint,
+    pub inner: Amount,
+    pub stretch: bool,
+}
+
+impl Space {
+    // The most dots of a space.
+    pub const MOST: u32 = Constraint::MOST;
+
+    // The space that a row says; one without fault says no other.
+    pub fn of_row(row: [u32; 5]) -> Space
+        ensures { λ r. ⌜ r ≡ spaceOf row ⌝ }
+    {
+        let constraint = Constraint::of(row[0], row[1]);
+        let inner = Amount::of(row[2], row[3]);
+        let stretch = row[4] == 1;
+        Space {
+            constraint,
+            inner,
+            stretch,
+        }
+    }
+
+    pub fn row(self) -> [u32; 5]
+        ensures { λ r. ⌜ r ≡ spaceRow self ⌝ }
+    {
+        let constraint = self.constraint;
+        let inner = self.inner;
+        [
+            constraint.tag(),
+            constraint.number(),
+            inner.tag(),
+            inner.number(),
+            bit(self.stretch),
+        ]
+    }
+
+    // The inner size if given; without it, definite becomes max-content and the others stay.
+    pub fn expansion(self) -> Constraint
+        ensures { λ r. ⌜ r ≡ expansion self ⌝ }
+    {
+        let inner = self.inner;
+        let constraint = self.constraint;
+        match inner {
+            Amount::Given(n) => Constraint::Definite(n),
+            Amount::Absent => match constraint {
+                Constraint::Definite(_) => Constraint::MaxContent,
+                Constraint::MinContent => Constraint::MinContent,
+                Constraint::MaxContent => Constraint::MaxContent,
+            },
+        }
+    }
+}

@@ -43,6 +43,9 @@ extern "C" {
  *   12  the lists of a fill are of unequal length, or longer than 256; place 0
  */
 
+/* The numbers of a space's row. Declare the row by this name: where the row grows, a caller that is compiled again grows with it. */
+#define TORRIVASK_SPACE_NUMBERS 5
+
 /* Sizes a sheet, in dots. Base and growth limit of track t go to places[t]; places past the tracks keep what they hold. *tracks becomes the
  * number of tracks, *rounds that of the passes in which the tracks are maximised. *definite becomes whether there is a free space: where
  * there is, it goes to *free, negative for an overfull board; where there is none, *free keeps what it holds. Refuses by 1 to 11. */
@@ -59,13 +62,15 @@ uint32_t torrivask_fill(uint32_t dots, const bool *affected, size_t affected_cou
 
 /* Reads a sheet into rows. *columns becomes the number of tracks, *fares that of items; rows past them keep what they hold. Refuses by 1 to
  * 5, then by 6 where either list has too few rows. */
-uint32_t torrivask_read_sheet(const uint8_t *sheet, size_t sheet_length, uint32_t space[5], uint32_t (*tracks)[4], size_t track_rows,
-                              uint32_t (*items)[7], size_t item_rows, uint32_t *columns, uint32_t *fares, uint64_t *place);
+uint32_t torrivask_read_sheet(const uint8_t *sheet, size_t sheet_length, uint32_t space[TORRIVASK_SPACE_NUMBERS],
+                              uint32_t (*tracks)[4], size_t track_rows, uint32_t (*items)[7], size_t item_rows, uint32_t *columns,
+                              uint32_t *fares, uint64_t *place);
 
 /* Writes the sheet of these rows; its counts are the lengths of the lists. *length becomes the sheet's length; bytes past it keep what they
  * hold. Refuses by 3 to 5 as the sheet's own bytes would show them, so the space comes before the tracks, then by 6. */
-uint32_t torrivask_write_sheet(const uint32_t space[5], const uint32_t (*tracks)[4], size_t track_count, const uint32_t (*items)[7],
-                               size_t item_count, uint8_t *bytes, size_t byte_count, uint64_t *length, uint64_t *place);
+uint32_t torrivask_write_sheet(const uint32_t space[TORRIVASK_SPACE_NUMBERS], const uint32_t (*tracks)[4], size_t track_count,
+                               const uint32_t (*items)[7], size_t item_count, uint8_t *bytes, size_t byte_count, uint64_t *length,
+                               uint64_t *place);
 
 /* *end becomes where the sheet at the front of these bytes ends, by its three counts; that may be behind the bytes that are there. Nothing
  * but the counts is read. Refuses by 1 and 3. */

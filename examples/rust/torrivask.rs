@@ -11,8 +11,11 @@ pub struct Refusal {
 /// A track's base size and growth limit, in dots.
 pub type Place = [u32; 2];
 
+/// The numbers of a space's row.
+pub const SPACE_NUMBERS: usize = 5;
+
 /// Constraint tag and number, inner size tag and number, stretch.
-pub type SpaceRow = [u32; 5];
+pub type SpaceRow = [u32; SPACE_NUMBERS];
 
 /// Minimum tag and number, maximum tag and number.
 pub type TrackRow = [u32; 4];
@@ -120,7 +123,7 @@ pub fn read_sheet(
     tracks: &mut [TrackRow],
     items: &mut [ItemRow],
 ) -> Result<SheetRead, Refusal> {
-    let (mut space, mut columns, mut fares, mut place) = ([0; 5], 0, 0, 0);
+    let (mut space, mut columns, mut fares, mut place) = ([0; SPACE_NUMBERS], 0, 0, 0);
     let number = unsafe {
         c::torrivask_read_sheet(
             sheet.as_ptr(),

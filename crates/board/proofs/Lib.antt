@@ -1,5 +1,3 @@
--- a sheet is never refused with 6
-pub mod SheetNumbers
 -- what reading with rows for every record leaves, and so the board
 pub mod ReadBoard
 -- answers that tell the same are the same

@@ -6,10 +6,11 @@ use native.Mathlib.Omega.{arith}
 use lib.ListN.{length, take}
 use lib.Seq.{length-take-le}
 use borrow.Author.Tests.{le-leb}
+use Rattle.rounds.specs.Rule.{mostTracks}
 use Rattle.kinds.specs.Kinds.{Row, itemOf}
 use Rattle.sheet_kinds.specs.Kinds.{sheetTrackOf}
 use Rattle.sheet_kinds.specs.declared.space.Space.{Space}
-use Rattle.sheet.specs.Rule.{fine, recordSize, twoAt, tracksAt, itemsAt, Sheet, sheetFault, readFault, readCall}
+use Rattle.sheet.specs.Rule.{fine, mostItems, recordSize, twoAt, tracksAt, itemsAt, Sheet, sheetFault, readFault, readCall}
 use Rattle.records.specs.Answer.{refusalFault}
 use Rattle.sheet.specs.Answer.{readLeaves, enoughRows, sheetOf}
 use Rattle.records.specs.declared.refusal.Refusal.{Refusal}
@@ -25,11 +26,12 @@ use Rattle.layout.specs.Answer.{layoutTold, layoutLeaves}
 use Rattle.layout.specs.Rule.{layoutCall}
 use Rattle.layout.specs.declared.LayoutAnswer.{LayoutAnswer}
 use Rattle.board.specs.Rule.{BoardOutcome, BoardTold, boardOutcome, sheetLayout, boardCall}
+use Rattle.board.specs.Store.{fewTracks, fewItems, fewBytes}
 use Rattle.board.specs.Answer.{boardTold, boardLeaves, own, ownAnswer}
 use Rattle.board.specs.declared.BoardAnswer.{BoardAnswer}
 use Rattle.board.specs.declared.refusal.Refusal.the-variants as refusals
 use Rattle.board.specs.declared.BoardAnswer.the-variants as answer
-use Rattle.board.proofs.SheetNumbers.{faultNumber, sheet-fault-le}
+use Rattle.sheet.proofs.Numbers.{faultNumber, sheet-fault-le}
 
 -- ---- refusals
 
@@ -53,13 +55,13 @@ module _ (bytes : List ℕ) (tracks items : List Row) where
       enough-rows e = rw (le-leb (twoAt bytes tracksAt) (length tracks) (rows e .0), le-leb (twoAt bytes (itemsAt bytes)) (length items) (rows e .1))
 
   -- no sheet announces more
-  pub large-rows : length tracks ≡ 256 → length items ≡ 1024 → readFault bytes tracks items ≡ sheetFault bytes
-  large-rows lt li = read-fault (λ e. let ok = accepted bytes e in (rw lt (ok .fewTracks), rw li (ok .fewItems)))
+  pub large-rows : length tracks ≡ mostTracks → length items ≡ mostItems → readFault bytes tracks items ≡ sheetFault bytes
+  large-rows lt li = read-fault (λ e. let ok = accepted bytes e in (rw lt (ok .from .fewTracks), rw li (ok .from .fewItems)))
 
-  -- the records of a sheet, 10 and 19 bytes each, are wholly there
-  pub small-rows : length bytes ≤ 1232 → length tracks ≡ 128 → length items ≡ 64 → readFault bytes tracks items ≡ sheetFault bytes
+  -- the records of a sheet are wholly there, so that few bytes have room for few
+  pub small-rows : length bytes ≤ fewBytes → length tracks ≡ fewTracks → length items ≡ fewItems → readFault bytes tracks items ≡ sheetFault bytes
   unfolding recordSize
-  small-rows few lt li = read-fault (λ e. let ends = accepted bytes e .items .ends in (omega arith, omega arith))
+  small-rows few lt li = read-fault (λ e. let ends = accepted bytes e .from .items .ends in (omega arith, omega arith))
 
 -- ---- the call
 
@@ -82,8 +84,8 @@ module _ (bytes : List ℕ) (tracks items : List Row) (enough : readFault bytes 
   -- a sheet was read
   pub record BoardRead (space : Space) (n m : ℕ) : Type 0 where
     pub rows : SheetRead bytes tracks items ts is space n m
-    pub fewTracks : length (take n ts) ≤ 256
-    pub fewItems : length (take m is) ≤ 1024
+    pub fewTracks : length (take n ts) ≤ mostTracks
+    pub fewItems : length (take m is) ≤ mostItems
 
   pub board-read : (a : ReadAnswer) (space : Space) (n m : ℕ) → a ≡ read.Sheet space n m → readLeaves a ts is ≡ readCall bytes tracks items → BoardRead space n m
   board-read a space n m is-sheet e =

@@ -11,7 +11,7 @@ use Rattle.sheet_kinds.specs.Rule.{expansion, resolved}
 use Rattle.sheet_kinds.specs.declared.space.Space.{Space}
 use Rattle.sheet_kinds.specs.declared.track.SheetTrack.{SheetTrack}
 use Rattle.rows.proofs.Stands.{length-rowsAt}
-use Rattle.sheet.specs.Rule.{Fault, fine, fault, trackRecord, twoAt, tracksAt, sheetAt, sheetFault}
+use Rattle.sheet.specs.Rule.{Fault, fine, fault, trackRecord, twoAt, tracksAt, sheetFrom, sheetAt, sheetFault}
 use Rattle.sheet.proofs.Accepted.{accepted}
 use Rattle.sizing.proofs.Counted.{length-size}
 use Rattle.sizing.specs.declared.free.Free.{Free}
@@ -37,8 +37,8 @@ module _ (s : Space) (ts : List SheetTrack) (is : List Item) (places : List Row)
 
 module _ (bytes : List ℕ) (places : List Row) where
   sheet-few : sheetFault bytes ≡ fine → length (map sheetTrackOf (sheetAt bytes .tracks)) ≤ mostTracks
-  unfolding sheetAt
-  sheet-few e = rw (length-map (sheetAt bytes .tracks) sheetTrackOf, length-rowsAt trackRecord bytes (twoAt bytes tracksAt) (tracksAt + 2)) (accepted bytes e .fewTracks)
+  unfolding sheetFrom
+  sheet-few e = rw (length-map (sheetAt bytes .tracks) sheetTrackOf, length-rowsAt trackRecord bytes (twoAt bytes tracksAt) (tracksAt + 2)) (accepted bytes e .from .fewTracks)
 
   told-few : (f : Fault) → sheetFault bytes ≡ f → TracksFew (boardAs f (sheetAt bytes) places .told)
   told-few fine e = layout-few (spaceOf (sheetAt bytes .space)) (map sheetTrackOf (sheetAt bytes .tracks)) (map itemOf (sheetAt bytes .items)) places (sheet-few e)

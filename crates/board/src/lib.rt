@@ -15,6 +15,7 @@ ghost use lib.ListN.{length};
 ghost use Rattle.layout.specs.Answer.{layoutTold};
 ghost use Rattle.sheet.specs.Rule.{sheetFault, readFault};
 ghost use Rattle.board.specs.Rule.{boardCall};
+ghost use Rattle.board.specs.Store.{fewBytes};
 ghost use Rattle.board.specs.Answer.{boardTold, boardLeaves, ownAnswer};
 
 pub enum BoardAnswer {
@@ -26,12 +27,13 @@ pub enum BoardAnswer {
     Refused(Refusal),
 }
 
-// So few bytes have room for 121 tracks or 63 items at most: their records fit a small store, which is cleared sooner.
-const FEW_BYTES: usize = 1_232;
-
+// A small store, which is cleared sooner.
 const FEW_TRACKS: usize = 128;
 
 const FEW_ITEMS: usize = 64;
+
+// So few bytes never say more: a track's record is more than half an item's.
+const FEW_BYTES: usize = sheet::EMPTY + FEW_ITEMS * rows::ITEM_SIZE;
 
 // Sizes a sheet. Base and limit of track t stand in place t; places past the tracks, and all of them after a refusal, keep what
 // they hold.
@@ -46,7 +48,7 @@ pub fn board(bytes: &[u8], places: &mut [[u32; 2]]) -> BoardAnswer
 
 // In a store for the records that few bytes say.
 fn board_small(bytes: &[u8], places: &mut [[u32; 2]]) -> BoardAnswer
-    requires { ⌜ length (now bytes) ≤ 1232 ⌝ }
+    requires { ⌜ length (now bytes) ≤ fewBytes ⌝ }
     ensures { λ r. ⌜ (boardLeaves r (now (places .exit)) ≡ boardCall (now (bytes .entry)) (now (places .entry))) × (ownAnswer r ≡ r) ⌝ }
 {
     let mut tracks = [[0u32; 4]; FEW_TRACKS];

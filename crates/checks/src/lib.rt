@@ -29,7 +29,7 @@ pub fn record_fault(space: Space, tracks: &[[u32; 4]], items: &[[u32; 7]]) -> Fa
 }
 
 // 7 of any record.
-fn over_fault(space: Space, tracks: &[[u32; 4]], items: &[[u32; 7]]) -> Fault
+pub fn over_fault(space: Space, tracks: &[[u32; 4]], items: &[[u32; 7]]) -> Fault
     ensures { λ r. ⌜ faultOf r ≡ overFault space (map sheetTrackOf (now (tracks .entry))) (map itemOf (now (items .entry))) ⌝ }
 {
     if over::space_over(space) {
@@ -41,7 +41,7 @@ fn over_fault(space: Space, tracks: &[[u32; 4]], items: &[[u32; 7]]) -> Fault
 }
 
 // 8 to 11 of the items, on the tracks that the sizing reads: a row says these too.
-fn item_fault(tracks: &[[u32; 4]], items: &[[u32; 7]]) -> Fault
+pub fn item_fault(tracks: &[[u32; 4]], items: &[[u32; 7]]) -> Fault
     ensures { λ r. ⌜ faultOf r ≡ firstOf (itemChecks (map trackOf (now (tracks .entry))) (map itemOf (now (items .entry)))) ⌝ }
 {
     let outside = lowest_item(ItemCheck::Outside, tracks, items);

@@ -11,7 +11,7 @@ use Rattle.laws.specs.Runs.{runs}
 use Rattle.laws.specs.Sums.{sum}
 use Rattle.laws.specs.Lists.{among, upFrom, keep, some, every, changeAt, inTurn, larger, largerFrom}
 use Rattle.rounds.specs.Rule.{Room, upTo, noLimit, Track, gainsOf, opens, leastRoom, oddTakers, handOut, Fill, round, more, fill}
-use Rattle.sheet.specs.Rule.{isIn, rowAt, rowsAt, recordSize, taggedFault, rowFault, recordsFault, sheetFault, sheetAt}
+use Rattle.sheet.specs.Rule.{isIn, rowAt, rowsAt, recordSize, taggedFault, rowFault, recordsFault, faultFrom, sheetFrom, sheetFault}
 use Rattle.checks.specs.Rule.{lowest, firstOf, recordFault}
 use Rattle.layout.specs.Rule.{BoardTold, BoardOutcome, layoutSizes, layoutCall}
 use Rattle.board.specs.Rule.{boardCall}
@@ -154,7 +154,7 @@ holds (board bytes places free rounds) = sameOutcome (boardCall bytes lent) plac
 
 -- every row holds
 unfoldable pub allHold : List Example → Bool
-unfolding number runs gainsOf opens leastRoom oddTakers handOut round more fill sum among upFrom keep some every changeAt inTurn larger largerFrom zipWith flatMap frNow search bases measuredItems start singles shares gainsBy increases raise batched longer lastBatch missing content maximise searchOver basesFr contentFr frFor expand stretched finish size isIn rowAt rowsAt recordSize taggedFault rowFault recordsFault sheetFault sheetAt lowest firstOf recordFault layoutCall boardCall
+unfolding number runs gainsOf opens leastRoom oddTakers handOut round more fill sum among upFrom keep some every changeAt inTurn larger largerFrom zipWith flatMap frNow search bases measuredItems start singles shares gainsBy increases raise batched longer lastBatch missing content maximise searchOver basesFr contentFr frFor expand stretched finish size isIn rowAt rowsAt recordSize taggedFault rowFault recordsFault faultFrom sheetFrom sheetFault lowest firstOf recordFault layoutCall boardCall
 allHold [] = true
 allHold (e ∷ es) = holds e && allHold es
 

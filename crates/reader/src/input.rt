@@ -7,7 +7,7 @@ ghost use Rattle.sheet.specs.Rule.{longest};
 
 // One byte more than the longest sheet has. A longer input is answered from these bytes as it would be from all: `text-of-front` in the
 // crate printed.
-const MOST_BYTES: usize = 22_034;
+const MOST_BYTES: usize = sheet::LONGEST + 1;
 
 // How reading went, and how many bytes of the sheet there are.
 pub struct Read {

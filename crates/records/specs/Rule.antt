@@ -4,8 +4,8 @@
 use Prim.Native.Nat.{ℕ, zero, suc, _+_, _*_, _/_, _%_}
 use mathlib.Core.Bool.{Bool, true, false, cond, _||_}
 use mathlib.Core.List.{List, [], _∷_, _++_}
-use lib.Dec.{leb, eqb}
-use lib.ListN.{length, drop, getD}
+use lib.Dec.{eqb, leb}
+use lib.ListN.{getD, length, drop}
 pub use Rattle.kinds.specs.Kinds.{Row}
 
 -- ---- Numbers, little-endian

@@ -9,7 +9,7 @@ use lib.ListN.{length, getD, drop, length-append, length-drop}
 use lib.Seq.{drop-append-seam, drop-drop, getD-drop}
 use Rattle.laws.specs.Walk.{next}
 use Rattle.records.specs.Rule.{byteAt, twoAt, fourAt, twoBytes, fourBytes, Part, tagged, mark, pair, recordSize, Row, rowAt, rowBytes, rowsAt, rowsBytes}
-use Rattle.rows.specs.Shapes.{AreBytes, EachLong}
+use Rattle.rows.specs.Shapes.{width, AreBytes, EachLong}
 use Rattle.records.proofs.LittleEndian.{twoBytes-of-bytes, fourBytes-of-halves, length-twoBytes, length-fourBytes}
 
 -- from place p on there is w, and then the rest
@@ -68,16 +68,6 @@ four-read {bytes} {p} {n} s =
     ∙ mod-add-div n 65536
 
 -- ---- records that stand are read
-
--- how many numbers a row of such a record has
-abbrev pub partWidth : Part → ℕ
-partWidth (tagged tags) = 2
-partWidth (mark listed) = 1
-partWidth pair = 1
-
-unfoldable pub width : List Part → ℕ
-width [] = 0
-width (part ∷ parts) = partWidth part + width parts
 
 pub length-rowBytes : (parts : List Part) (row : Row) → length row ≡ width parts → length (rowBytes parts row) ≡ recordSize parts
 unfolding width rowBytes recordSize

@@ -11,22 +11,29 @@ ghost use mathlib.Core.List.{_∷_};
 ghost use Prim.Native.Nat.{_+_, _≤_, _<_};
 ghost use lib.ListN.{length};
 ghost use Rattle.laws.specs.Put.{put};
-ghost use Rattle.records.specs.Rule.{spaceRecord, trackRecord, itemRecord, rowAt, rowBytes, rowFault, fine, fourBytes};
+ghost use Rattle.records.specs.Rule.{spaceRecord, trackRecord, itemRecord, recordSize, rowAt, rowBytes, rowFault, fine, fourBytes};
 ghost use Rattle.records.specs.Answer.{faultOf, lastPlace};
 
+// The bytes of each part of a record: a tag and a u32, a byte, two u16.
+const TAGGED_SIZE: usize = 5;
+
+const MARK_SIZE: usize = 1;
+
+const PAIR_SIZE: usize = 4;
+
 // The bytes of each record.
-pub const SPACE_SIZE: usize = 11;
+pub const SPACE_SIZE: usize = TAGGED_SIZE + TAGGED_SIZE + MARK_SIZE;
 
-pub const TRACK_SIZE: usize = 10;
+pub const TRACK_SIZE: usize = TAGGED_SIZE + TAGGED_SIZE;
 
-pub const ITEM_SIZE: usize = 19;
+pub const ITEM_SIZE: usize = PAIR_SIZE + TAGGED_SIZE + TAGGED_SIZE + TAGGED_SIZE;
 
 pub fn space_at(bytes: &[u8], at: usize) -> [u32; 5]
-    requires { ⌜ at + 11 ≤ length (now bytes) ⌝ }
+    requires { ⌜ at + recordSize spaceRecord ≤ length (now bytes) ⌝ }
     ensures { λ r. ⌜ r ≡ rowAt spaceRecord (now (bytes .entry)) at ⌝ }
 {
-    let inner = at + 5;
-    let stretch = inner + 5;
+    let inner = at + TAGGED_SIZE;
+    let stretch = inner + TAGGED_SIZE;
     [
         byte_at(bytes, at),
         four_at(bytes, at + 1),
@@ -37,10 +44,10 @@ pub fn space_at(bytes: &[u8], at: usize) -> [u32; 5]
 }
 
 pub fn track_at(bytes: &[u8], at: usize) -> [u32; 4]
-    requires { ⌜ at + 10 ≤ length (now bytes) ⌝ }
+    requires { ⌜ at + recordSize trackRecord ≤ length (now bytes) ⌝ }
     ensures { λ r. ⌜ r ≡ rowAt trackRecord (now (bytes .entry)) at ⌝ }
 {
-    let maximum = at + 5;
+    let maximum = at + TAGGED_SIZE;
     [
         byte_at(bytes, at),
         four_at(bytes, at + 1),
@@ -50,12 +57,12 @@ pub fn track_at(bytes: &[u8], at: usize) -> [u32; 4]
 }
 
 pub fn item_at(bytes: &[u8], at: usize) -> [u32; 7]
-    requires { ⌜ at + 19 ≤ length (now bytes) ⌝ }
+    requires { ⌜ at + recordSize itemRecord ≤ length (now bytes) ⌝ }
     ensures { λ r. ⌜ r ≡ rowAt itemRecord (now (bytes .entry)) at ⌝ }
 {
-    let minimum = at + 4;
-    let min_content = minimum + 5;
-    let max_content = min_content + 5;
+    let minimum = at + PAIR_SIZE;
+    let min_content = minimum + TAGGED_SIZE;
+    let max_content = min_content + TAGGED_SIZE;
     [
         four_at(bytes, at),
         byte_at(bytes, minimum),
@@ -68,66 +75,66 @@ pub fn item_at(bytes: &[u8], at: usize) -> [u32; 7]
 }
 
 pub fn space_fault(row: [u32; 5], at: usize) -> Fault
-    requires { ⌜ at + 11 ≤ lastPlace ⌝ }
+    requires { ⌜ at + recordSize spaceRecord ≤ lastPlace ⌝ }
     ensures { λ r. ⌜ (faultOf r ≡ rowFault spaceRecord row at) × (length row ≡ 5) ⌝ }
 {
-    let inner_at = at + 5;
+    let inner_at = at + TAGGED_SIZE;
     let constraint = tags::constraint(row[0]).fault(row[1], at);
     let inner = tags::given(row[2]).fault(row[3], inner_at);
-    let stretch = tags::stretch_fault(row[4], inner_at + 5);
+    let stretch = tags::stretch_fault(row[4], inner_at + TAGGED_SIZE);
     constraint.first(inner.first(stretch))
 }
 
 pub fn track_fault(row: [u32; 4], at: usize) -> Fault
-    requires { ⌜ at + 10 ≤ lastPlace ⌝ }
+    requires { ⌜ at + recordSize trackRecord ≤ lastPlace ⌝ }
     ensures { λ r. ⌜ (faultOf r ≡ rowFault trackRecord row at) × (length row ≡ 4) ⌝ }
 {
     let minimum = tags::minimum(row[0]).fault(row[1], at);
-    let maximum = tags::maximum(row[2]).fault(row[3], at + 5);
+    let maximum = tags::maximum(row[2]).fault(row[3], at + TAGGED_SIZE);
     minimum.first(maximum)
 }
 
 pub fn item_fault(row: [u32; 7], at: usize) -> Fault
-    requires { ⌜ at + 19 ≤ lastPlace ⌝ }
+    requires { ⌜ at + recordSize itemRecord ≤ lastPlace ⌝ }
     ensures { λ r. ⌜ (faultOf r ≡ rowFault itemRecord row at) × (length row ≡ 7) ⌝ }
 {
-    let minimum_at = at + 4;
-    let min_content_at = minimum_at + 5;
+    let minimum_at = at + PAIR_SIZE;
+    let min_content_at = minimum_at + TAGGED_SIZE;
     let minimum = tags::given(row[1]).fault(row[2], minimum_at);
     let min_content = tags::given(row[3]).fault(row[4], min_content_at);
-    let max_content = tags::given(row[5]).fault(row[6], min_content_at + 5);
+    let max_content = tags::given(row[5]).fault(row[6], min_content_at + TAGGED_SIZE);
     minimum.first(min_content.first(max_content))
 }
 
 // The rows that are put into bytes have no fault, so that each tag fits its byte.
 pub fn put_space(row: [u32; 5], bytes: &mut [u8], at: usize)
-    requires { ⌜ (at + 11 ≤ length (now bytes)) × (rowFault spaceRecord row at ≡ fine) ⌝ }
+    requires { ⌜ (at + recordSize spaceRecord ≤ length (now bytes)) × (rowFault spaceRecord row at ≡ fine) ⌝ }
     ensures { λ _. ⌜ now (bytes .exit) ≡ put at (rowBytes spaceRecord row) (now (bytes .entry)) ⌝ }
 {
-    let inner = at + 5;
+    let inner = at + TAGGED_SIZE;
     put_tagged(row[0], row[1], bytes, at);
     put_tagged(row[2], row[3], bytes, inner);
-    put_byte(row[4], bytes, inner + 5);
+    put_byte(row[4], bytes, inner + TAGGED_SIZE);
 }
 
 pub fn put_track(row: [u32; 4], bytes: &mut [u8], at: usize)
-    requires { ⌜ (at + 10 ≤ length (now bytes)) × (rowFault trackRecord row at ≡ fine) ⌝ }
+    requires { ⌜ (at + recordSize trackRecord ≤ length (now bytes)) × (rowFault trackRecord row at ≡ fine) ⌝ }
     ensures { λ _. ⌜ now (bytes .exit) ≡ put at (rowBytes trackRecord row) (now (bytes .entry)) ⌝ }
 {
     put_tagged(row[0], row[1], bytes, at);
-    put_tagged(row[2], row[3], bytes, at + 5);
+    put_tagged(row[2], row[3], bytes, at + TAGGED_SIZE);
 }
 
 pub fn put_item(row: [u32; 7], bytes: &mut [u8], at: usize)
-    requires { ⌜ (at + 19 ≤ length (now bytes)) × (rowFault itemRecord row at ≡ fine) ⌝ }
+    requires { ⌜ (at + recordSize itemRecord ≤ length (now bytes)) × (rowFault itemRecord row at ≡ fine) ⌝ }
     ensures { λ _. ⌜ now (bytes .exit) ≡ put at (rowBytes itemRecord row) (now (bytes .entry)) ⌝ }
 {
-    let minimum = at + 4;
-    let min_content = minimum + 5;
+    let minimum = at + PAIR_SIZE;
+    let min_content = minimum + TAGGED_SIZE;
     put_four(row[0], bytes, at);
     put_tagged(row[1], row[2], bytes, minimum);
     put_tagged(row[3], row[4], bytes, min_content);
-    put_tagged(row[5], row[6], bytes, min_content + 5);
+    put_tagged(row[5], row[6], bytes, min_content + TAGGED_SIZE);
 }
 
 fn put_tagged(tag: u32, n: u32, bytes: &mut [u8], at: usize)

@@ -1,5 +1,6 @@
--- What bytes without fault have: three allowed counts, all the records that these announce, and nothing behind. Assumes nothing.
-use mathlib.Core.Path.{_≡_}
+-- What a sheet without fault has: three allowed counts and all the records that these announce; and by itself nothing behind them.
+-- Assumes nothing.
+use mathlib.Core.Path.{_≡_, ap, _∙_}
 use mathlib.Core.Bool.{true}
 use Prim.Native.Nat.{ℕ, zero, suc, _+_, _*_, _≤_}
 use native.Mathlib.Omega.{arith}
@@ -8,11 +9,11 @@ use lib.Dec.{leb}
 use lib.ListN.{length, drop}
 use borrow.Author.Tests.{leb-true, eqb-true}
 use Rattle.rounds.specs.Rule.{mostTracks}
-use Rattle.rows.specs.Shapes.{AreBytes}
-use Rattle.records.proofs.Firsts.{fine-both, fine-test}
-use Rattle.rows.proofs.Stands.{Stands, stands-join, two-stands, rows-stand, length-rowsAt, width, width-rowAt}
+use Rattle.rows.specs.Shapes.{AreBytes, width}
+use Rattle.records.proofs.Firsts.{first-assoc, fine-both, fine-test}
+use Rattle.rows.proofs.Stands.{Stands, stands-join, two-stands, rows-stand, length-rowsAt, width-rowAt}
 use Rattle.rows.proofs.KindRows.{row-of-space}
-use Rattle.sheet.specs.Rule.{Part, recordSize, spaceRecord, rowAt, rowsAt, twoAt, fine, wholeTo, rowFault, recordsFault, Section, countFault, sectionFault, sectionEnd, spaceSection, trackSection, itemSection, mostItems, tracksAt, itemsAt, sheetEnd, sheetFault}
+use Rattle.sheet.specs.Rule.{Part, recordSize, spaceRecord, rowAt, rowsAt, twoAt, fine, wholeTo, rowFault, recordsFault, Section, countFault, sectionFault, sectionEnd, spaceSection, trackSection, itemSection, mostItems, first, tracksFrom, itemsFrom, faultFrom, tracksAt, itemsAt, sheetEnd, overFault, sheetFault}
 use Rattle.sheet_kinds.specs.Kinds.{spaceRow, spaceOf}
 use Rattle.sheet.specs.Content.{sectionBytes}
 use Rattle.sheet.proofs.Looks.{fine-whole}
@@ -55,42 +56,65 @@ module _ (section : Section) (bytes : List ℕ) (p : ℕ) where
   section-stands small f =
       rw (length-rowsAt (section .parts) bytes (twoAt bytes p) (p + 2)) (stands-join _ _ (two-stands small p (f .count .whole)) (rows-stand small (section .parts) (twoAt bytes p) (p + 2) (f .ends)))
 
--- ---- the sheet
+-- ---- the sheet, from a place
 
-pub record Accepted (bytes : List ℕ) : Type 0 where
-  pub space : SectionFine spaceSection bytes 0
-  pub tracks : SectionFine trackSection bytes tracksAt
-  pub items : SectionFine itemSection bytes (itemsAt bytes)
-  pub oneSpace : twoAt bytes 0 ≡ 1
-  pub spaceFine : rowFault spaceRecord (rowAt spaceRecord bytes 2) 2 ≡ fine
-  pub fewTracks : twoAt bytes tracksAt ≤ mostTracks
-  pub fewItems : twoAt bytes (itemsAt bytes) ≤ mostItems
-  pub noneOver : length bytes ≤ sheetEnd bytes
+pub record AcceptedFrom (bytes : List ℕ) (p : ℕ) : Type 0 where
+  pub space : SectionFine spaceSection bytes p
+  pub tracks : SectionFine trackSection bytes (tracksFrom p)
+  pub items : SectionFine itemSection bytes (itemsFrom bytes p)
+  pub oneSpace : twoAt bytes p ≡ 1
+  pub spaceFine : rowFault spaceRecord (rowAt spaceRecord bytes (p + 2)) (p + 2) ≡ fine
+  pub fewTracks : twoAt bytes (tracksFrom p) ≤ mostTracks
+  pub fewItems : twoAt bytes (itemsFrom bytes p) ≤ mostItems
 
-module _ (bytes : List ℕ) where
-  pub accepted : sheetFault bytes ≡ fine → Accepted bytes
-  unfolding sheetFault recordsFault
-  accepted e =
-      let s = fine-both (sectionFault spaceSection bytes 0) _ e in
-      let t = fine-both (sectionFault trackSection bytes tracksAt) _ (s .1) in
-      let i = fine-both (sectionFault itemSection bytes (itemsAt bytes)) _ (t .1) in
-      let space = section-fine spaceSection bytes 0 (s .0) in
-      let tracks = section-fine trackSection bytes tracksAt (t .0) in
-      let items = section-fine itemSection bytes (itemsAt bytes) (i .0) in
-      let one = eqb-true (twoAt bytes 0) 1 (space .count .allowed) in
-      let inSpace = fine-both (wholeTo bytes (2 + recordSize spaceRecord)) _ (rw one at (space .records)) in
+module _ (bytes : List ℕ) (p : ℕ) where
+  pub accepted-from : faultFrom bytes p ≡ fine → AcceptedFrom bytes p
+  unfolding faultFrom recordsFault
+  accepted-from e =
+      let s = fine-both (sectionFault spaceSection bytes p) _ e in
+      let t = fine-both (sectionFault trackSection bytes (tracksFrom p)) _ (s .1) in
+      let space = section-fine spaceSection bytes p (s .0) in
+      let tracks = section-fine trackSection bytes (tracksFrom p) (t .0) in
+      let items = section-fine itemSection bytes (itemsFrom bytes p) (t .1) in
+      let one = eqb-true (twoAt bytes p) 1 (space .count .allowed) in
+      let inSpace = fine-both (wholeTo bytes (p + 2 + recordSize spaceRecord)) _ (rw one at (space .records)) in
       record {
         space = space;
         tracks = tracks;
         items = items;
         oneSpace = one;
-        spaceFine = fine-both (rowFault spaceRecord (rowAt spaceRecord bytes 2) 2) _ (inSpace .1) .0;
+        spaceFine = fine-both (rowFault spaceRecord (rowAt spaceRecord bytes (p + 2)) (p + 2)) _ (inSpace .1) .0;
         fewTracks = leb-true _ _ (tracks .count .allowed);
         fewItems = leb-true _ _ (items .count .allowed);
-        noneOver = leb-true _ _ (fine-test (leb (length bytes) (sheetEnd bytes)) _ _ (i .1));
       }
 
   -- the space that is read says its row again
-  pub space-row-of-accepted : sheetFault bytes ≡ fine → spaceRow (spaceOf (rowAt spaceRecord bytes 2)) ≡ rowAt spaceRecord bytes 2
+  pub space-row-of-accepted : faultFrom bytes p ≡ fine → spaceRow (spaceOf (rowAt spaceRecord bytes (p + 2))) ≡ rowAt spaceRecord bytes (p + 2)
   unfolding width
-  space-row-of-accepted e = row-of-space (rowAt spaceRecord bytes 2) 2 (width-rowAt spaceRecord bytes 2) (accepted e .spaceFine)
+  space-row-of-accepted e = row-of-space (rowAt spaceRecord bytes (p + 2)) (p + 2) (width-rowAt spaceRecord bytes (p + 2)) (accepted-from e .spaceFine)
+
+-- ---- the sheet by itself
+
+-- 2 comes behind the others
+pub fine-over : (bytes : List ℕ) → sheetFault bytes ≡ fine → (faultFrom bytes 0 ≡ fine) × (overFault bytes (sheetEnd bytes) ≡ fine)
+unfolding sheetFault
+fine-over bytes e = fine-both (faultFrom bytes 0) _ e
+
+pub record Accepted (bytes : List ℕ) : Type 0 where
+  pub from : AcceptedFrom bytes 0
+  pub noneOver : length bytes ≤ sheetEnd bytes
+
+pub accepted : (bytes : List ℕ) → sheetFault bytes ≡ fine → Accepted bytes
+accepted bytes e =
+    let f = fine-over bytes e in
+    record { from = accepted-from bytes 0 (f .0); noneOver = leb-true _ _ (fine-test (leb (length bytes) (sheetEnd bytes)) _ _ (f .1)) }
+
+-- the faults in their order, section by section
+pub fault-in-order : (bytes : List ℕ)
+    → sheetFault bytes
+    ≡ first (sectionFault spaceSection bytes 0)
+    (first (sectionFault trackSection bytes tracksAt) (first (sectionFault itemSection bytes (itemsAt bytes)) (overFault bytes (sheetEnd bytes))))
+unfolding sheetFault faultFrom
+fault-in-order bytes =
+    first-assoc (sectionFault spaceSection bytes 0) _ _
+    ∙ ap (first (sectionFault spaceSection bytes 0)) (first-assoc (sectionFault trackSection bytes tracksAt) _ _)

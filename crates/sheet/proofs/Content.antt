@@ -7,15 +7,16 @@ use mathlib.Core.List.{List, [], _∷_, _++_, append-assoc, append-nil}
 use lib.ListN.{length, getD, length-append}
 use borrow.Author.Tests.{le-leb, leb-true}
 use Rattle.rounds.specs.Rule.{mostTracks}
-use Rattle.rows.specs.Shapes.{EachLong}
+use Rattle.rows.specs.Shapes.{EachLong, width}
 use Rattle.records.proofs.Firsts.{first-fine, first-where, fine-both, le-of-count-fine}
-use Rattle.rows.proofs.Stands.{Stands, stands-front, stands-next, width}
+use Rattle.rows.proofs.Stands.{Stands, stands-front, stands-next}
 use Rattle.rows.proofs.KindRows.{space-fine}
-use Rattle.sheet.specs.Rule.{Row, recordSize, rowAt, rowsAt, rowFault, rowsBytes, spaceRecord, trackRecord, itemRecord, spaceSection, trackSection, itemSection, twoAt, tracksAt, itemsAt, sheetEnd, Sheet, sheetBytes, sheetAt, sheetFault, sectionFault, overFault, mostItems, Fault, first, fine, fault}
+use Rattle.sheet.specs.Rule.{Row, recordSize, rowAt, rowsAt, rowFault, rowsBytes, spaceRecord, trackRecord, itemRecord, spaceSection, trackSection, itemSection, twoAt, tracksAt, itemsAt, sheetEnd, Sheet, sheetBytes, sheetAt, sheetFrom, sheetFault, sectionFault, overFault, mostItems, Fault, first, fine, fault}
 use Rattle.sheet.specs.Answer.{sheetOf}
 use Rattle.sheet.specs.Content.{rowsFault, sectionBytes, tracksFault, itemsFault, itemsAfter, sheetSize, contentFault, Looked}
 use Rattle.sheet.specs.RoundTrip.{Shaped}
 use Rattle.sheet_kinds.specs.declared.space.Space.{Space}
+use Rattle.sheet.proofs.Accepted.{fault-in-order}
 use Rattle.sheet.proofs.Looked.{looked-of-long, long-of-looked}
 use Rattle.sheet.proofs.SectionBytes.{length-sectionBytes, section-count, section-rows, section-end, section-fault}
 
@@ -26,9 +27,8 @@ sections-of-sheet sheet = simp (append-assoc, append-nil)
 
 -- ---- where the sections stand, and what is read there
 
-module _ (sheet : Sheet) (spaceLong : length (sheet .space) ≡ 5) where
+module _ (sheet : Sheet) (spaceLong : length (sheet .space) ≡ width spaceRecord) where
   long-space : EachLong (width spaceRecord) (sheet .space ∷ [])
-  unfolding width
   long-space zero h = spaceLong
   long-space (suc i) h = absurd (not-suc-le-zero (le-of-suc-le-suc h))
 
@@ -49,7 +49,6 @@ module _ (sheet : Sheet) (spaceLong : length (sheet .space) ≡ 5) where
   tracks-stand = stands-front (sectionBytes trackRecord (sheet .tracks)) _ behind-space
 
   items-at : itemsAt (sheetBytes sheet) ≡ itemsAfter (length (sheet .tracks))
-  unfolding recordSize
   items-at = section-end trackSection (sheet .tracks) tracksAt tracks-stand
 
   read-space : rowAt spaceRecord (sheetBytes sheet) 2 ≡ sheet .space
@@ -59,20 +58,19 @@ module _ (sheet : Sheet) (spaceLong : length (sheet .space) ≡ 5) where
       (rw (section-count spaceSection (sheet .space ∷ []) 0 space-stands) at (section-rows spaceSection (sheet .space ∷ []) 0 space-stands long-space))
 
   module _ (tracksLong : EachLong 4 (sheet .tracks)) where
-    length-tracks : length (sectionBytes trackRecord (sheet .tracks)) ≡ 2 + length (sheet .tracks) * 10
-    unfolding recordSize width
+    length-tracks : length (sectionBytes trackRecord (sheet .tracks)) ≡ 2 + length (sheet .tracks) * recordSize trackRecord
+    unfolding width
     length-tracks = length-sectionBytes trackRecord (sheet .tracks) tracksLong
 
     items-stand : Stands (sheetBytes sheet) (itemsAfter (length (sheet .tracks))) (sectionBytes itemRecord (sheet .items)) []
     items-stand = stands-next (sectionBytes trackRecord (sheet .tracks)) _ _ (omega (arith, length-tracks)) behind-space
 
     sheet-end : sheetEnd (sheetBytes sheet) ≡ sheetSize (length (sheet .tracks)) (length (sheet .items))
-    unfolding recordSize
     sheet-end = rw items-at (section-end itemSection (sheet .items) (itemsAfter (length (sheet .tracks))) items-stand)
 
     module _ (itemsLong : EachLong 7 (sheet .items)) where
-      length-items : length (sectionBytes itemRecord (sheet .items)) ≡ 2 + length (sheet .items) * 19
-      unfolding recordSize width
+      length-items : length (sectionBytes itemRecord (sheet .items)) ≡ 2 + length (sheet .items) * recordSize itemRecord
+      unfolding width
       length-items = length-sectionBytes itemRecord (sheet .items) itemsLong
 
       length-sheetBytes : length (sheetBytes sheet) ≡ sheetSize (length (sheet .tracks)) (length (sheet .items))
@@ -83,7 +81,7 @@ module _ (sheet : Sheet) (spaceLong : length (sheet .space) ≡ 5) where
           let b = length-append t i in
           rw sections-of-sheet (omega (arith, a, b, length-space, length-tracks, length-items))
 
-      over-fine : overFault (sheetBytes sheet) ≡ fine
+      over-fine : overFault (sheetBytes sheet) (sheetEnd (sheetBytes sheet)) ≡ fine
       over-fine = rw (le-leb (length (sheetBytes sheet)) (sheetEnd (sheetBytes sheet)) (omega (arith, length-sheetBytes, sheet-end)))
 
   -- ---- the faults: the length of a row matters only where it is looked at
@@ -94,8 +92,7 @@ module _ (sheet : Sheet) (spaceLong : length (sheet .space) ≡ 5) where
 
   -- that of the space comes first, whatever the tracks and the items are
   pub fault-of-space : (number place : ℕ) → rowFault spaceRecord (sheet .space) 2 ≡ fault number place → sheetFault (sheetBytes sheet) ≡ fault number place
-  unfolding sheetFault
-  fault-of-space number place e = rw (space-fault, e)
+  fault-of-space number place e = fault-in-order (sheetBytes sheet) ∙ rw (space-fault, e)
 
   module _ (looked : Looked (sheet .tracks) (sheet .items)) where
     looked-tracks-long : tracksFault (sheet .tracks) ≡ fine → EachLong 4 (sheet .tracks)
@@ -110,22 +107,23 @@ module _ (sheet : Sheet) (spaceLong : length (sheet .space) ≡ 5) where
 
     -- where no track has a fault, that of the items
     behind-tracks : tracksFault (sheet .tracks) ≡ fine
-        → first (sectionFault itemSection (sheetBytes sheet) (itemsAt (sheetBytes sheet))) (overFault (sheetBytes sheet)) ≡ itemsFault (sheet .items) (itemsAfter (length (sheet .tracks)))
+        → first (sectionFault itemSection (sheetBytes sheet) (itemsAt (sheetBytes sheet))) (overFault (sheetBytes sheet) (sheetEnd (sheetBytes sheet))) ≡ itemsFault (sheet .items) (itemsAfter (length (sheet .tracks)))
     unfolding width
     behind-tracks t =
         let long = looked-tracks-long t in
         let after = itemsAfter (length (sheet .tracks)) in
         let here : sectionFault itemSection (sheetBytes sheet) (itemsAt (sheetBytes sheet)) ≡ itemsFault (sheet .items) after =
         rw items-at (section-fault itemSection (sheet .items) after (items-stand long) (λ a. looked .atItems t (leb-true _ _ a))) in
-        ap (λ (f : Fault). first f (overFault (sheetBytes sheet))) here
+        ap (λ (f : Fault). first f (overFault (sheetBytes sheet) (sheetEnd (sheetBytes sheet)))) here
         ∙ first-where (itemsFault (sheet .items) after) (λ e. over-fine long (looked-items-long t e))
         ∙ first-fine (itemsFault (sheet .items) after)
 
     -- the space's fault, and then that of the tracks and the items
     looked-fault : sheetFault (sheetBytes sheet) ≡ first (rowFault spaceRecord (sheet .space) 2) (contentFault (sheet .tracks) (sheet .items))
-    unfolding sheetFault width
+    unfolding width
     looked-fault =
-        rw (space-fault, section-fault trackSection (sheet .tracks) tracksAt tracks-stand (λ a. looked .atTracks (leb-true _ _ a)))
+        fault-in-order (sheetBytes sheet)
+        ∙ rw (space-fault, section-fault trackSection (sheet .tracks) tracksAt tracks-stand (λ a. looked .atTracks (leb-true _ _ a)))
         (ap (first (rowFault spaceRecord (sheet .space) 2)) (first-where (tracksFault (sheet .tracks)) behind-tracks))
 
 -- ---- a sheet whose rows have the numbers that their records say
@@ -144,7 +142,7 @@ module _ (sheet : Sheet) (shaped : Shaped sheet) where
 
   -- a shaped sheet is read back, with faults and all
   pub shaped-reads-back : sheetAt (sheetBytes sheet) ≡ sheet
-  unfolding sheetAt width
+  unfolding sheetFrom width
   shaped-reads-back =
       rw (
         read-space sheet (shaped .ofSpace),
@@ -162,6 +160,7 @@ counts-of-fine tracks items e =
 
 module _ (space : Space) (tracks items : List Row) (looked : Looked tracks items) where
   pub content-fault : sheetFault (sheetBytes (sheetOf space tracks items)) ≡ contentFault tracks items
+  unfolding width
   content-fault = looked-fault (sheetOf space tracks items) refl looked ∙ rw (space-fine space 2)
 
   -- rows without fault have the numbers that their records say
@@ -170,10 +169,13 @@ module _ (space : Space) (tracks items : List Row) (looked : Looked tracks items
     no-faults = fine-both (tracksFault tracks) _ e
 
     pub tracks-long : EachLong 4 tracks
+    unfolding width
     tracks-long = looked-tracks-long (sheetOf space tracks items) refl looked (no-faults .0)
 
     pub items-long : EachLong 7 items
+    unfolding width
     items-long = looked-items-long (sheetOf space tracks items) refl looked (no-faults .0) (no-faults .1)
 
     pub content-size : length (sheetBytes (sheetOf space tracks items)) ≡ sheetSize (length tracks) (length items)
+    unfolding width
     content-size = length-sheetBytes (sheetOf space tracks items) refl tracks-long items-long

@@ -15,20 +15,20 @@ use Rattle.sheet.proofs.Accepted.{accepted}
 use Rattle.sheet.proofs.Same.{two-same, items-at-same}
 
 pub accepted-ends : (bytes : List ℕ) → sheetFault bytes ≡ fine → sheetEnd bytes ≡ length bytes
-accepted-ends bytes e = let a = accepted bytes e in omega (arith, a .items .ends, a .noneOver)
+accepted-ends bytes e = let a = accepted bytes e in omega (arith, a .from .items .ends, a .noneOver)
 
 -- ---- the end from the counts of spaces, tracks and items
 
 byCounts : (spaces tracks items : ℕ) → EndTold
 byCounts spaces tracks items =
-    let itemsFrom = tracksAt + 2 + tracks * recordSize trackRecord in
+    let behind = tracksAt + 2 + tracks * recordSize trackRecord in
     endAs
-    (first (unless (eqb spaces 1) (fault 3 0)) (first (unless (leb tracks mostTracks) (fault 3 tracksAt)) (unless (leb items mostItems) (fault 3 itemsFrom))))
-    (itemsFrom + 2 + items * recordSize itemRecord)
+    (first (unless (eqb spaces 1) (fault 3 0)) (first (unless (leb tracks mostTracks) (fault 3 tracksAt)) (unless (leb items mostItems) (fault 3 behind))))
+    (behind + 2 + items * recordSize itemRecord)
 
 end-by-counts : (bytes : List ℕ) → itemsAt bytes + 2 ≤ length bytes → endCall bytes ≡ byCounts (twoAt bytes 0) (twoAt bytes tracksAt) (twoAt bytes (itemsAt bytes))
 unfolding endCall byCounts
-end-by-counts bytes h = rw (whole-fine bytes 2 (omega arith), whole-fine bytes 15 (omega arith), whole-fine bytes (itemsAt bytes + 2) h)
+end-by-counts bytes h = rw (whole-fine bytes 2 (omega arith), whole-fine bytes (tracksAt + 2) (omega arith), whole-fine bytes (itemsAt bytes + 2) h)
 
 -- ---- bytes that agree up to the last count have one end
 
@@ -45,13 +45,13 @@ end-alone : (bytes : List ℕ) → sheetFault bytes ≡ fine → endCall bytes �
 unfolding byCounts
 end-alone bytes e =
     let a = accepted bytes e in
-    end-by-counts bytes (a .items .count .whole)
-    ∙ rw (a .oneSpace, le-leb (twoAt bytes tracksAt) mostTracks (a .fewTracks), le-leb (twoAt bytes (itemsAt bytes)) mostItems (a .fewItems)) (ap endAt (accepted-ends bytes e))
+    end-by-counts bytes (a .from .items .count .whole)
+    ∙ rw (a .from .oneSpace, le-leb (twoAt bytes tracksAt) mostTracks (a .from .fewTracks), le-leb (twoAt bytes (itemsAt bytes)) mostItems (a .from .fewItems)) (ap endAt (accepted-ends bytes e))
 
 -- a sheet at the front of a longer run
 pub end-of-accepted : (bytes : List ℕ) → sheetFault bytes ≡ fine → (more : List ℕ) → endCall (bytes ++ more) ≡ endAt (length bytes)
 end-of-accepted bytes e more =
-    let whole = accepted bytes e .items .count .whole in
+    let whole = accepted bytes e .from .items .count .whole in
     sym (end-same bytes (bytes ++ more) whole (rw length-append (omega arith)) (λ i h. sym (List·getD-append bytes more 0 i (omega arith)))) ∙ end-alone bytes e
 
 pub end-reads-no-further : (bytes more : List ℕ) → itemsAt bytes + 2 ≤ length bytes → endCall (take (itemsAt bytes + 2) bytes ++ more) ≡ endCall bytes

@@ -2,7 +2,7 @@
 use mathlib.Core.Path.{_≡_, refl}
 use Prim.Native.Nat.{ℕ}
 use mathlib.Core.List.{List, [], _∷_, _++_}
-use Rattle.sheet.specs.Rule.{isIn, twoBytes, fourBytes, recordSize, rowAt, rowsAt, rowBytes, rowsBytes, taggedFault, rowFault, recordsFault, fine, fault, Sheet, sheetAt, sheetBytes, sheetFault}
+use Rattle.sheet.specs.Rule.{isIn, twoBytes, fourBytes, recordSize, rowAt, rowsAt, rowBytes, rowsBytes, taggedFault, rowFault, recordsFault, fine, fault, Sheet, sheetFrom, faultFrom, sheetAt, sheetBytes, sheetFault}
 
 -- the space, a track whose minimum is auto and whose maximum is fixed at 0, and an item of 30, 30, 30
 abbrev w12Bytes : List ℕ
@@ -19,11 +19,11 @@ w12 =
     }
 
 pub w12-has-no-fault : sheetFault w12Bytes ≡ fine
-unfolding sheetFault recordsFault rowFault taggedFault isIn rowAt recordSize
+unfolding sheetFault faultFrom recordsFault rowFault taggedFault isIn rowAt recordSize
 w12-has-no-fault = refl
 
 pub w12-says : sheetAt w12Bytes ≡ w12
-unfolding sheetAt rowsAt rowAt recordSize
+unfolding sheetFrom rowsAt rowAt recordSize
 w12-says = refl
 
 pub w12-writes-back : sheetBytes w12 ≡ w12Bytes
@@ -32,5 +32,5 @@ w12-writes-back = refl
 
 -- one byte more is one byte over
 pub w12-and-one-more : sheetFault (w12Bytes ++ (0 ∷ [])) ≡ fault 2 46
-unfolding sheetFault recordsFault rowFault taggedFault isIn rowAt recordSize
+unfolding sheetFault faultFrom recordsFault rowFault taggedFault isIn rowAt recordSize
 w12-and-one-more = refl

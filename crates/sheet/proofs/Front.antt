@@ -1,6 +1,6 @@
 -- What decides a sheet's answer is in its first longest + 1 bytes: no sheet without fault is longer than `longest`, and of bytes that are
 -- longer the fault lies within those. Assumes nothing.
-use mathlib.Core.Path.{_≡_, refl, ap, ap₂, _∙_}
+use mathlib.Core.Path.{_≡_, refl, sym, ap, ap₂, _∙_}
 use mathlib.Core.Logic.{⊎-elim}
 use mathlib.Core.Bool.{true}
 use Prim.Native.Nat.{ℕ, _+_, _*_, _≤_, _<_}
@@ -14,16 +14,12 @@ use Rattle.rounds.specs.Rule.{mostTracks}
 use Rattle.laws.specs.Tests.{lt-or-ge}
 use Rattle.records.proofs.Firsts.{first-where}
 use Rattle.sheet.specs.Rule.{Row, byteAt, twoAt, recordSize, itemRecord, Fault, fine, fault, first, sectionFault, spaceSection, trackSection, itemSection, mostItems, tracksAt, itemsAt, sheetEnd, overFault, sheetFault, longest, readCall}
-use Rattle.sheet.proofs.Accepted.{accepted, section-fine}
+use Rattle.sheet.proofs.Accepted.{accepted, section-fine, fault-in-order}
 use Rattle.sheet.proofs.Same.{two-same, items-at-same, section-same}
-
-pub longest-is : longest ≡ 22033
-unfolding recordSize
-longest-is = refl
 
 pub accepted-length-le : (bytes : List ℕ) → sheetFault bytes ≡ fine → length bytes ≤ longest
 unfolding recordSize
-accepted-length-le bytes e = let a = accepted bytes e in omega (arith, a .fewTracks, a .fewItems, a .noneOver)
+accepted-length-le bytes e = let a = accepted bytes e in omega (arith, a .from .fewTracks, a .from .fewItems, a .noneOver)
 
 -- ---- bytes over the longest that agree so far have one fault
 
@@ -50,7 +46,7 @@ module _ (b c : List ℕ) (same : (i : ℕ) → i < longest → byteAt b i ≡ b
         ∙ ap (sectionFault itemSection c) (items-at-same b c longest same (omega arith))
 
     -- 2: both go on behind the end that the counts say
-    over-same : twoAt b (itemsAt b) ≤ mostItems → overFault b ≡ overFault c
+    over-same : twoAt b (itemsAt b) ≤ mostItems → overFault b (sheetEnd b) ≡ overFault c (sheetEnd c)
     unfolding recordSize
     over-same fewItems =
         let at = items-at-same b c longest same (omega arith) in
@@ -60,17 +56,18 @@ module _ (b c : List ℕ) (same : (i : ℕ) → i < longest → byteAt b i ≡ b
         rw (lt-leb (length b) (sheetEnd b) (omega arith), lt-leb (length c) (sheetEnd c) (omega arith), end)
 
   fault-same : sheetFault b ≡ sheetFault c
-  unfolding sheetFault
   fault-same =
-      first-where (sectionFault spaceSection b 0)
+      fault-in-order b
+      ∙ first-where (sectionFault spaceSection b 0)
       (λ s.
       first-where (sectionFault trackSection b tracksAt)
       (λ t.
       let few = leb-true _ _ (section-fine trackSection b tracksAt t .count .allowed) in
       first-where (sectionFault itemSection b (itemsAt b)) (λ i. over-same few (leb-true _ _ (section-fine itemSection b (itemsAt b) i .count .allowed)))
-      ∙ ap (λ (f : Fault). first f (overFault c)) (items-same few))
-      ∙ ap (λ (f : Fault). first f (first (sectionFault itemSection c (itemsAt c)) (overFault c))) tracks-same)
-      ∙ ap (λ (f : Fault). first f (first (sectionFault trackSection c tracksAt) (first (sectionFault itemSection c (itemsAt c)) (overFault c)))) space-same
+      ∙ ap (λ (f : Fault). first f (overFault c (sheetEnd c))) (items-same few))
+      ∙ ap (λ (f : Fault). first f (first (sectionFault itemSection c (itemsAt c)) (overFault c (sheetEnd c)))) tracks-same)
+      ∙ ap (λ (f : Fault). first f (first (sectionFault trackSection c tracksAt) (first (sectionFault itemSection c (itemsAt c)) (overFault c (sheetEnd c))))) space-same
+      ∙ sym (fault-in-order c)
 
 -- ---- the front of bytes
 

@@ -25,7 +25,11 @@ pub mod Example
 -- bytes that agree so far, and that what decides a sheet's answer is at its front
 pub mod Same
 pub mod Front
+-- bytes before a sheet do not matter
+pub mod From
 -- where a sheet ends, from its counts alone
 pub mod Ends
+-- a sheet's own bytes are never refused with 6
+pub mod Numbers
 -- an answer is the only one that tells what it tells
 pub mod Unique

@@ -5,9 +5,9 @@ use mathlib.Core.Logic.{_↔_}
 use Prim.Native.Nat.{ℕ, _+_, _≤_}
 use mathlib.Core.List.{List, [], _∷_}
 use lib.ListN.{length, drop, drop-of-length-le}
-use Rattle.rows.specs.Shapes.{AreBytes}
-use Rattle.rows.proofs.Stands.{Stands, stands-whole, stands-join, width, width-rowAt, width-rowsAt}
-use Rattle.sheet.specs.Rule.{Row, recordSize, spaceRecord, trackRecord, itemRecord, spaceSection, trackSection, itemSection, twoAt, rowAt, rowsAt, tracksAt, itemsAt, Sheet, sheetAt, sheetBytes, Fault, fine, fault, first, sheetFault, enough, readFault, readAs, readRefused, readCall, writeFault, writeAs, writeRefused, writeCall}
+use Rattle.rows.specs.Shapes.{AreBytes, width}
+use Rattle.rows.proofs.Stands.{Stands, stands-whole, stands-join, width-rowAt, width-rowsAt}
+use Rattle.sheet.specs.Rule.{Row, recordSize, spaceRecord, trackRecord, itemRecord, spaceSection, trackSection, itemSection, twoAt, rowAt, rowsAt, tracksAt, itemsAt, Sheet, sheetFrom, sheetAt, sheetBytes, Fault, fine, fault, first, sheetFault, enough, readFault, readAs, readRefused, readCall, writeFault, writeAs, writeRefused, writeCall}
 use Rattle.sheet.specs.Content.{sectionBytes}
 use Rattle.sheet.specs.RoundTrip.{Shaped}
 use Rattle.sheet.proofs.Content.{sections-of-sheet, written-fault, track-count, item-count, shaped-reads-back}
@@ -18,7 +18,7 @@ use Rattle.sheet.proofs.Accepted.{accepted, section-stands}
 
 -- the rows that are read have as many numbers as their records say
 pub shaped-of-read : (bytes : List ℕ) → Shaped (sheetAt bytes)
-unfolding sheetAt width
+unfolding sheetFrom width
 shaped-of-read bytes =
     record {
       ofSpace = width-rowAt spaceRecord bytes 2;
@@ -27,12 +27,12 @@ shaped-of-read bytes =
     }
 
 pub accepted-writes-back : (bytes : List ℕ) → AreBytes bytes → sheetFault bytes ≡ fine → sheetBytes (sheetAt bytes) ≡ bytes
-unfolding sheetAt rowsAt recordSize
+unfolding sheetFrom rowsAt recordSize
 accepted-writes-back bytes small e =
     let a = accepted bytes e in
-    let space : Stands bytes 0 (sectionBytes spaceRecord (rowAt spaceRecord bytes 2 ∷ [])) (drop tracksAt bytes) = rw (a .oneSpace) at (section-stands spaceSection bytes 0 small (a .space)) in
-    let tracks = section-stands trackSection bytes tracksAt small (a .tracks) in
-    let items = section-stands itemSection bytes (itemsAt bytes) small (a .items) in
+    let space : Stands bytes 0 (sectionBytes spaceRecord (rowAt spaceRecord bytes 2 ∷ [])) (drop tracksAt bytes) = rw (a .from .oneSpace) at (section-stands spaceSection bytes 0 small (a .from .space)) in
+    let tracks = section-stands trackSection bytes tracksAt small (a .from .tracks) in
+    let items = section-stands itemSection bytes (itemsAt bytes) small (a .from .items) in
     let all = stands-join _ _ space (stands-join _ _ tracks items) in
     sections-of-sheet (sheetAt bytes) ∙ sym (stands-whole all (drop-of-length-le bytes (a .noneOver)))
 

@@ -5,8 +5,7 @@ use native.Mathlib.Omega.{arith}
 use mathlib.Core.List.{List, _++_, append-assoc}
 use lib.ListN.{length, length-append}
 use Rattle.laws.specs.Put.{put, put-then, put-front}
-use Rattle.rows.specs.Shapes.{EachLong}
-use Rattle.rows.proofs.Stands.{width}
+use Rattle.rows.specs.Shapes.{EachLong, width}
 use Rattle.sheet.specs.Rule.{Row, recordSize, spaceRecord, trackRecord, itemRecord, twoBytes, fourBytes, rowBytes, tracksAt, sheetBytes, onto}
 use Rattle.sheet_kinds.specs.Kinds.{spaceRow}
 use Rattle.sheet.specs.Answer.{sheetOf}
@@ -20,7 +19,7 @@ module _ (space : Space) (tracks items : List Row) where
   front = twoBytes 1 ++ rowBytes spaceRecord (spaceRow space)
 
   length-front : length front ≡ tracksAt
-  unfolding front rowBytes fourBytes twoBytes
+  unfolding front rowBytes fourBytes twoBytes recordSize
   length-front = refl
 
   parts-of-sheet : (front ++ sectionBytes trackRecord tracks) ++ sectionBytes itemRecord items ≡ sheetBytes (sheetOf space tracks items)

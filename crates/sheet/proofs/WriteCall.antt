@@ -9,6 +9,7 @@ use borrow.Author.Tests.{leb-true}
 use Rattle.records.specs.Answer.{refusalFault}
 use Rattle.records.specs.declared.refusal.Refusal.{Refusal}
 use Rattle.records.proofs.Firsts.{first-where, fine-both, fine-test}
+use Rattle.rows.specs.Shapes.{width}
 use Rattle.sheet.specs.Rule.{Row, spaceRecord, rowFault, Fault, fine, fault, first, enough, Sheet, sheetBytes, onto, sheetWritten, writeRefused, writeOutcome, writeFault, writeAs, writeCall}
 use Rattle.sheet.specs.Answer.{sheetOf, writeLeaves}
 use Rattle.sheet.specs.Content.{contentFault, sheetSize, Looked, Writable}
@@ -17,7 +18,7 @@ use Rattle.sheet.specs.declared.writing.WriteAnswer.the-variants as answ
 use Rattle.sheet.proofs.Content.{fault-of-space, content-fault, content-size, tracks-long, items-long}
 
 -- a space that is handed over as a row may have a fault, which comes before all else
-pub write-refused-by-space : (sheet : Sheet) (lent : List ℕ) (number place : ℕ) → length (sheet .space) ≡ 5 → rowFault spaceRecord (sheet .space) 2 ≡ fault number place
+pub write-refused-by-space : (sheet : Sheet) (lent : List ℕ) (number place : ℕ) → length (sheet .space) ≡ width spaceRecord → rowFault spaceRecord (sheet .space) 2 ≡ fault number place
     → writeOutcome (writeRefused number place) lent ≡ writeCall sheet lent
 unfolding writeCall
 write-refused-by-space sheet lent number place long e = rw (fault-of-space sheet long number place e)

@@ -1,9 +1,11 @@
 -- The code's answers in the words of the rule: each refusal by the paper's number and place, and what each call leaves.
 -- Assumes nothing.
-use Prim.Native.Nat.{ℕ}
+use mathlib.Core.Path.{_≡_}
+use Prim.Native.Nat.{ℕ, _≤_}
 use mathlib.Core.List.{List}
+use lib.ListN.{length}
 use Rattle.records.specs.Answer.{numberOf, placeOf}
-use Rattle.sheet.specs.Rule.{Row, Part, Fault, first, spaceSection, trackSection, itemSection, twoAt, tracksAt, itemsAt, enough, Sheet, ReadTold, sheetRead, readRefused, ReadOutcome, readOutcome, WriteTold, sheetWritten, writeRefused, WriteOutcome, writeOutcome, EndTold, endAt, endRefused}
+use Rattle.sheet.specs.Rule.{Row, Part, Fault, fine, first, spaceSection, trackSection, itemSection, twoAt, tracksFrom, itemsFrom, faultFrom, tracksAt, itemsAt, enough, Sheet, ReadTold, sheetRead, readRefused, ReadOutcome, readOutcome, WriteTold, sheetWritten, writeRefused, WriteOutcome, writeOutcome, EndTold, endAt, endRefused}
 use Rattle.sheet.specs.Rule as Rule
 use Rattle.sheet_kinds.specs.Kinds.{spaceRow}
 use Rattle.sheet_kinds.specs.declared.space.Space.{Space}
@@ -52,3 +54,9 @@ partsOf section = sectionOf section .parts
 
 abbrev pub enoughRows : List ℕ → ℕ → ℕ → Fault
 enoughRows bytes tracks items = first (enough (twoAt bytes tracksAt) tracks) (enough (twoAt bytes (itemsAt bytes)) items)
+
+-- a sheet from a place that has no fault, and rows enough for it
+pub record Loadable (bytes : List ℕ) (place : ℕ) (tracks items : List Row) : Type 0 where
+  pub unfaulted : faultFrom bytes place ≡ fine
+  pub tracksFit : twoAt bytes (tracksFrom place) ≤ length tracks
+  pub itemsFit : twoAt bytes (itemsFrom bytes place) ≤ length items

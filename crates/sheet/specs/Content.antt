@@ -22,10 +22,10 @@ itemsFault items at = first (unless (leb (length items) mostItems) (fault 3 at))
 
 -- where the count of the items stands behind so many tracks, and where the sheet ends
 abbrev pub itemsAfter : ℕ → ℕ
-itemsAfter tracks = tracksAt + 2 + tracks * 10
+itemsAfter tracks = tracksAt + 2 + tracks * recordSize trackRecord
 
 abbrev pub sheetSize : ℕ → ℕ → ℕ
-sheetSize tracks items = itemsAfter tracks + 2 + items * 19
+sheetSize tracks items = itemsAfter tracks + 2 + items * recordSize itemRecord
 
 abbrev pub contentFault : List Row → List Row → Fault
 contentFault tracks items = first (tracksFault tracks) (itemsFault items (itemsAfter (length tracks)))

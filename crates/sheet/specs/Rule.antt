@@ -50,30 +50,63 @@ sectionFault section bytes at = first (countFault section bytes at) (recordsFaul
 abbrev pub sectionEnd : Section → List ℕ → ℕ → ℕ
 sectionEnd section bytes at = at + 2 + twoAt bytes at * recordSize (section .parts)
 
--- ---- The sheet: space, tracks, items
+-- ---- The sheet: space, tracks, items. It may stand in a longer run of bytes, and then `at` is the place of its first byte
 
 pub record Sheet : Type 0 where
   pub space : Row
   pub tracks : List Row
   pub items : List Row
 
--- where each section stands, the tracks behind a count and the one record of the space; and where the sheet ends
+-- where the tracks stand, behind a count and the one record of the space
+abbrev pub tracksFrom : ℕ → ℕ
+tracksFrom at = at + 2 + recordSize spaceRecord
+
+-- where the items stand, and where the sheet ends
+abbrev pub itemsFrom : List ℕ → ℕ → ℕ
+itemsFrom bytes at = sectionEnd trackSection bytes (tracksFrom at)
+
+abbrev pub endFrom : List ℕ → ℕ → ℕ
+endFrom bytes at = sectionEnd itemSection bytes (itemsFrom bytes at)
+
+unfoldable pub sheetFrom : List ℕ → ℕ → Sheet
+sheetFrom bytes at =
+    record {
+      space = rowAt spaceRecord bytes (at + 2);
+      tracks = rowsAt trackRecord bytes (twoAt bytes (tracksFrom at)) (tracksFrom at + 2);
+      items = rowsAt itemRecord bytes (twoAt bytes (itemsFrom bytes at)) (itemsFrom bytes at + 2);
+    }
+
+-- 1 and 3 to 5, front to back; 1 where the whole run ends too early
+unfoldable pub faultFrom : List ℕ → ℕ → Fault
+faultFrom bytes at =
+    first (sectionFault spaceSection bytes at)
+    (first (sectionFault trackSection bytes (tracksFrom at))
+    (sectionFault itemSection bytes (itemsFrom bytes at)))
+
+-- the same of the three counts alone
+abbrev pub countsFaultFrom : List ℕ → ℕ → Fault
+countsFaultFrom bytes at =
+    first (countFault spaceSection bytes at)
+    (first (countFault trackSection bytes (tracksFrom at))
+    (countFault itemSection bytes (itemsFrom bytes at)))
+
+-- 2, a step of its own: bytes follow `end`
+abbrev pub overFault : List ℕ → (end : ℕ) → Fault
+overFault bytes end = unless (leb (length bytes) end) (fault 2 end)
+
+-- ---- A sheet by itself: it begins with the first byte, and nothing follows its items
+
 abbrev pub tracksAt : ℕ
-tracksAt = 13
+tracksAt = tracksFrom 0
 
 abbrev pub itemsAt : List ℕ → ℕ
-itemsAt bytes = sectionEnd trackSection bytes tracksAt
+itemsAt bytes = itemsFrom bytes 0
 
 abbrev pub sheetEnd : List ℕ → ℕ
-sheetEnd bytes = sectionEnd itemSection bytes (itemsAt bytes)
+sheetEnd bytes = endFrom bytes 0
 
-unfoldable pub sheetAt : List ℕ → Sheet
-sheetAt bytes =
-    record {
-      space = rowAt spaceRecord bytes 2;
-      tracks = rowsAt trackRecord bytes (twoAt bytes tracksAt) (tracksAt + 2);
-      items = rowsAt itemRecord bytes (twoAt bytes (itemsAt bytes)) (itemsAt bytes + 2);
-    }
+abbrev pub sheetAt : List ℕ → Sheet
+sheetAt bytes = sheetFrom bytes 0
 
 unfoldable pub sheetBytes : Sheet → List ℕ
 sheetBytes sheet =
@@ -81,16 +114,8 @@ sheetBytes sheet =
     ++ (twoBytes (length (sheet .tracks)) ++ (rowsBytes trackRecord (sheet .tracks)
     ++ (twoBytes (length (sheet .items)) ++ rowsBytes itemRecord (sheet .items)))))
 
--- 2: bytes follow the items.
-abbrev pub overFault : List ℕ → Fault
-overFault bytes = unless (leb (length bytes) (sheetEnd bytes)) (fault 2 (sheetEnd bytes))
-
 unfoldable pub sheetFault : List ℕ → Fault
-sheetFault bytes =
-    first (sectionFault spaceSection bytes 0)
-    (first (sectionFault trackSection bytes tracksAt)
-    (first (sectionFault itemSection bytes (itemsAt bytes))
-    (overFault bytes)))
+sheetFault bytes = first (faultFrom bytes 0) (overFault bytes (sheetEnd bytes))
 
 -- ---- The longest sheet
 
@@ -164,10 +189,7 @@ endAs fine end = endAt end
 endAs (fault number place) end = endRefused number place
 
 abbrev pub countsFault : List ℕ → Fault
-countsFault bytes =
-    first (countFault spaceSection bytes 0)
-    (first (countFault trackSection bytes tracksAt)
-    (countFault itemSection bytes (itemsAt bytes)))
+countsFault bytes = countsFaultFrom bytes 0
 
 unfoldable pub endCall : List ℕ → EndTold
 endCall bytes = endAs (countsFault bytes) (sheetEnd bytes)

@@ -10,9 +10,17 @@ pub use kinds::Contribution;
 pub use kinds::ContributionKind;
 pub use kinds::Item;
 pub use reading::ReadAnswer;
+pub use reading::load_from;
 pub use reading::read;
 use records::Fault;
 pub use records::Refusal;
+pub use sections::EMPTY;
+pub use sections::LONGEST;
+pub use sections::SPACE_AT;
+pub use sections::counts_fault_from;
+pub use sections::end_from;
+pub use sections::fault_from;
+pub use sections::over_fault;
 pub use sheet_kinds::SheetMaximum;
 pub use sheet_kinds::SheetMinimum;
 pub use sheet_kinds::SheetTrack;
@@ -32,9 +40,9 @@ pub enum EndAnswer {
 pub fn end(bytes: &[u8]) -> EndAnswer
     ensures { λ r. ⌜ endTold r ≡ endCall (now (bytes .entry)) ⌝ }
 {
-    let fault = sections::counts_fault(bytes);
+    let fault = sections::counts_fault_from(bytes, 0);
     if let Fault::Found(refusal) = fault {
         return EndAnswer::Refused(refusal);
     }
-    EndAnswer::At(sections::sheet_end(bytes))
+    EndAnswer::At(sections::end_from(bytes, 0))
 }

@@ -11,8 +11,8 @@ ghost use mathlib.Core.Path.{_≡_};
 ghost use Prim.Native.Nat.{_+_, _*_, _≤_};
 ghost use lib.ListN.{length};
 ghost use Rattle.records.specs.Answer.{faultOf};
-ghost use Rattle.sheet.specs.Rule.{trackRecord, itemRecord, rowsAt, sheetFault, first, onto, readCall};
-ghost use Rattle.sheet.specs.Answer.{enoughRows, readLeaves};
+ghost use Rattle.sheet.specs.Rule.{trackRecord, itemRecord, recordSize, rowsAt, sheetFrom, sheetFault, first, onto, readSheet, readCall};
+ghost use Rattle.sheet.specs.Answer.{enoughRows, readLeaves, Loadable};
 
 pub enum ReadAnswer {
     Sheet {
@@ -31,17 +31,7 @@ pub fn read(bytes: &[u8], tracks: &mut [[u32; 4]], items: &mut [[u32; 7]]) -> Re
     if let Fault::Found(refusal) = fault {
         return ReadAnswer::Refused(refusal);
     }
-    let at = sections::items_at(bytes);
-    let track_count = two_at(bytes, TRACKS_AT) as usize;
-    let item_count = two_at(bytes, at) as usize;
-    read_tracks(bytes, TRACKS_AT + COUNT_SIZE, track_count, tracks);
-    read_items(bytes, at + COUNT_SIZE, item_count, items);
-    let space = Space::of_row(rows::space_at(bytes, SPACE_AT));
-    ReadAnswer::Sheet {
-        space,
-        tracks: track_count,
-        items: item_count,
-    }
+    load_from(bytes, 0, tracks, items)
 }
 
 // 1 to 5, then 6.
@@ -52,16 +42,40 @@ fn read_fault(bytes: &[u8], tracks: usize, items: usize) -> Fault
     if !fault.is_fine() {
         return fault;
     }
-    let at = sections::items_at(bytes);
+    let items_at = sections::items_from(bytes, 0);
     let track_count = two_at(bytes, TRACKS_AT) as usize;
-    let item_count = two_at(bytes, at) as usize;
+    let item_count = two_at(bytes, items_at) as usize;
     let few_tracks = Fault::unless(track_count <= tracks, Refusal::TooFewPlaces);
     let few_items = Fault::unless(item_count <= items, Refusal::TooFewPlaces);
     few_tracks.first(few_items)
 }
 
+// Reads a sheet that begins at `at` and has no fault there into rows that are enough for it.
+pub fn load_from(
+    bytes: &[u8],
+    at: usize,
+    tracks: &mut [[u32; 4]],
+    items: &mut [[u32; 7]],
+) -> ReadAnswer
+    requires { ⌜ Loadable (now bytes) at (now tracks) (now items) ⌝ }
+    ensures { λ r. ⌜ readLeaves r (now (tracks .exit)) (now (items .exit)) ≡ readSheet (sheetFrom (now (bytes .entry)) at) (now (tracks .entry)) (now (items .entry)) ⌝ }
+{
+    let tracks_at = sections::tracks_from(at);
+    let items_at = sections::items_from(bytes, at);
+    let track_count = two_at(bytes, tracks_at) as usize;
+    let item_count = two_at(bytes, items_at) as usize;
+    read_tracks(bytes, tracks_at + COUNT_SIZE, track_count, tracks);
+    read_items(bytes, items_at + COUNT_SIZE, item_count, items);
+    let space = Space::of_row(rows::space_at(bytes, at + SPACE_AT));
+    ReadAnswer::Sheet {
+        space,
+        tracks: track_count,
+        items: item_count,
+    }
+}
+
 fn read_tracks(bytes: &[u8], from: usize, count: usize, tracks: &mut [[u32; 4]])
-    requires { ⌜ (from + count * 10 ≤ length (now bytes)) × (count ≤ length (now tracks)) ⌝ }
+    requires { ⌜ (from + count * recordSize trackRecord ≤ length (now bytes)) × (count ≤ length (now tracks)) ⌝ }
     ensures { λ _. ⌜ now (tracks .exit) ≡ onto (rowsAt trackRecord (now (bytes .entry)) count from) (now (tracks .entry)) ⌝ }
 {
     let mut at = from;
@@ -74,7 +88,7 @@ fn read_tracks(bytes: &[u8], from: usize, count: usize, tracks: &mut [[u32; 4]])
 }
 
 fn read_items(bytes: &[u8], from: usize, count: usize, items: &mut [[u32; 7]])
-    requires { ⌜ (from + count * 19 ≤ length (now bytes)) × (count ≤ length (now items)) ⌝ }
+    requires { ⌜ (from + count * recordSize itemRecord ≤ length (now bytes)) × (count ≤ length (now items)) ⌝ }
     ensures { λ _. ⌜ now (items .exit) ≡ onto (rowsAt itemRecord (now (bytes .entry)) count from) (now (items .entry)) ⌝ }
 {
     let mut at = from;

@@ -1,4 +1,5 @@
-// The sections of a sheet, front to back: what is wrong with each, and where each stands.
+// The sections of a sheet, front to back: what is wrong with each, and where each stands. A sheet begins at a place of a run of bytes:
+// what is public here is for who has sheets in a longer run, and says what it asks.
 use kinds::Item;
 use kinds::Track;
 use records::Fault;
@@ -8,16 +9,21 @@ ghost use mathlib.Core.Path.{_≡_};
 ghost use Prim.Native.Nat.{_+_, _≤_};
 ghost use lib.Dec.{leb};
 ghost use lib.ListN.{length};
-ghost use Rattle.records.specs.Answer.{faultOf};
-ghost use Rattle.sheet.specs.Rule.{recordSize, rowAt, rowFault, recordsFault, first, wholeTo, countFault, sectionFault, tracksAt, itemsAt, sheetEnd, sheetFault, countsFault};
+ghost use Rattle.records.specs.Answer.{faultOf, lastPlace};
+ghost use Rattle.sheet.specs.Rule.{recordSize, rowAt, rowFault, recordsFault, first, wholeTo, countFault, sectionFault, tracksFrom, itemsFrom, endFrom, faultFrom, countsFaultFrom, overFault, sheetFault};
 ghost use Rattle.sheet.specs.Answer.{sectionOf, partsOf};
 
 // The bytes of a count.
 pub(crate) const COUNT_SIZE: usize = 2;
-// Where the record of the space stands, and behind it the count of the tracks.
-pub(crate) const SPACE_AT: usize = COUNT_SIZE;
+// Where the record of the space stands in a sheet, and behind it the count of the tracks.
+pub const SPACE_AT: usize = COUNT_SIZE;
 
 pub(crate) const TRACKS_AT: usize = SPACE_AT + rows::SPACE_SIZE;
+
+// The bytes of a sheet without tracks and items, and of the longest.
+pub const EMPTY: usize = TRACKS_AT + COUNT_SIZE + COUNT_SIZE;
+
+pub const LONGEST: usize = EMPTY + Track::MOST * rows::TRACK_SIZE + Item::MOST * rows::ITEM_SIZE;
 
 pub(crate) enum Section {
     Space,
@@ -115,57 +121,76 @@ fn reaches(length: usize, at: usize, size: usize) -> bool
     size <= length - at
 }
 
-// Where the count of the items stands.
-pub(crate) fn items_at(bytes: &[u8]) -> usize
-    requires { ⌜ tracksAt + 2 ≤ length (now bytes) ⌝ }
-    ensures { λ r. ⌜ r ≡ itemsAt (now (bytes .entry)) ⌝ }
+// Where the counts of the tracks and of the items stand, of a sheet that begins at `at`.
+pub(crate) fn tracks_from(at: usize) -> usize
+    requires { ⌜ tracksFrom at ≤ lastPlace ⌝ }
+    ensures { λ r. ⌜ r ≡ tracksFrom at ⌝ }
 {
-    let count = two_at(bytes, TRACKS_AT) as usize;
-    TRACKS_AT + COUNT_SIZE + count * rows::TRACK_SIZE
+    at + TRACKS_AT
 }
 
-pub(crate) fn sheet_end(bytes: &[u8]) -> usize
-    requires { ⌜ (tracksAt + 2 ≤ length (now bytes)) × (itemsAt (now bytes) + 2 ≤ length (now bytes)) ⌝ }
-    ensures { λ r. ⌜ r ≡ sheetEnd (now (bytes .entry)) ⌝ }
+pub(crate) fn items_from(bytes: &[u8], at: usize) -> usize
+    requires { ⌜ tracksFrom at + 2 ≤ length (now bytes) ⌝ }
+    ensures { λ r. ⌜ r ≡ itemsFrom (now (bytes .entry)) at ⌝ }
 {
-    let at = items_at(bytes);
-    let count = two_at(bytes, at) as usize;
-    at + COUNT_SIZE + count * rows::ITEM_SIZE
+    let tracks = tracks_from(at);
+    let count = two_at(bytes, tracks) as usize;
+    tracks + COUNT_SIZE + count * rows::TRACK_SIZE
+}
+
+pub fn end_from(bytes: &[u8], at: usize) -> usize
+    requires { ⌜ (tracksFrom at + 2 ≤ length (now bytes)) × (itemsFrom (now bytes) at + 2 ≤ length (now bytes)) ⌝ }
+    ensures { λ r. ⌜ r ≡ endFrom (now (bytes .entry)) at ⌝ }
+{
+    let items = items_from(bytes, at);
+    let count = two_at(bytes, items) as usize;
+    items + COUNT_SIZE + count * rows::ITEM_SIZE
 }
 
 // What is wrong with the three counts. Nothing else is read.
-pub(crate) fn counts_fault(bytes: &[u8]) -> Fault
-    ensures { λ r. ⌜ faultOf r ≡ countsFault (now (bytes .entry)) ⌝ }
+pub fn counts_fault_from(bytes: &[u8], at: usize) -> Fault
+    ensures { λ r. ⌜ faultOf r ≡ countsFaultFrom (now (bytes .entry)) at ⌝ }
 {
-    let space = Section::Space.count_fault(bytes, 0);
+    let space = Section::Space.count_fault(bytes, at);
     if !space.is_fine() {
         return space;
     }
-    let tracks = Section::Tracks.count_fault(bytes, TRACKS_AT);
+    let tracks = Section::Tracks.count_fault(bytes, tracks_from(at));
     if !tracks.is_fine() {
         return tracks;
     }
-    let at = items_at(bytes);
-    Section::Items.count_fault(bytes, at)
+    Section::Items.count_fault(bytes, items_from(bytes, at))
 }
 
-// What is wrong with a sheet, 1 to 5.
+// What is wrong with a sheet that begins at `at`: 1 and 3 to 5.
+pub fn fault_from(bytes: &[u8], at: usize) -> Fault
+    ensures { λ r. ⌜ faultOf r ≡ faultFrom (now (bytes .entry)) at ⌝ }
+{
+    let space = Section::Space.fault(bytes, at);
+    if !space.is_fine() {
+        return space;
+    }
+    let tracks = Section::Tracks.fault(bytes, tracks_from(at));
+    if !tracks.is_fine() {
+        return tracks;
+    }
+    Section::Items.fault(bytes, items_from(bytes, at))
+}
+
+// What is wrong with a sheet by itself: 1 and 3 to 5, then 2.
 pub(crate) fn sheet_fault(bytes: &[u8]) -> Fault
     ensures { λ r. ⌜ faultOf r ≡ sheetFault (now (bytes .entry)) ⌝ }
 {
-    let space = Section::Space.fault(bytes, 0);
-    if !space.is_fine() {
-        return space;
+    let fault = fault_from(bytes, 0);
+    if !fault.is_fine() {
+        return fault;
     }
-    let tracks = Section::Tracks.fault(bytes, TRACKS_AT);
-    if !tracks.is_fine() {
-        return tracks;
-    }
-    let at = items_at(bytes);
-    let items = Section::Items.fault(bytes, at);
-    if !items.is_fine() {
-        return items;
-    }
-    let end = sheet_end(bytes);
+    over_fault(bytes, end_from(bytes, 0))
+}
+
+// 2: bytes follow `end`.
+pub fn over_fault(bytes: &[u8], end: usize) -> Fault
+    ensures { λ r. ⌜ faultOf r ≡ overFault (now (bytes .entry)) end ⌝ }
+{
     Fault::unless(bytes.len() <= end, Refusal::BytesOver { at: end })
 }

@@ -15,7 +15,7 @@ ghost use Rattle.laws.specs.Put.{put};
 ghost use Rattle.rounds.specs.Rule.{mostTracks};
 ghost use Rattle.records.specs.Answer.{faultOf, lastPlace};
 ghost use Rattle.rows.specs.Shapes.{EachLong};
-ghost use Rattle.sheet.specs.Rule.{trackRecord, itemRecord, rowsBytes, mostItems, tracksAt, sheetBytes, fine, first, enough, onto, writeCall};
+ghost use Rattle.sheet.specs.Rule.{trackRecord, itemRecord, recordSize, rowsBytes, mostItems, tracksAt, sheetBytes, fine, first, enough, onto, writeCall};
 ghost use Rattle.sheet.specs.Answer.{sheetOf, writeLeaves};
 ghost use Rattle.sheet.specs.Content.{rowsFault, tracksFault, itemsFault, contentFault, itemsAfter, sheetSize, sectionBytes, LookedAt, TracksLooked, ItemsLooked, Looked, Writable};
 
@@ -80,7 +80,7 @@ fn items_fault(items: &[[u32; 7]], at: usize) -> Fault
 
 // A look at a row tells its length too: a row by value has that of its type, which a lent slice does not say of its rows.
 fn track_rows_fault(tracks: &[[u32; 4]], from: usize) -> Fault
-    requires { ⌜ from + length (now tracks) * 10 ≤ lastPlace ⌝ }
+    requires { ⌜ from + length (now tracks) * recordSize trackRecord ≤ lastPlace ⌝ }
     ensures { λ r. ⌜ (faultOf r ≡ rowsFault trackRecord (now (tracks .entry)) from) × LookedAt 4 trackRecord (now (tracks .entry)) from ⌝ }
 {
     let mut at = from;
@@ -97,7 +97,7 @@ fn track_rows_fault(tracks: &[[u32; 4]], from: usize) -> Fault
 }
 
 fn item_rows_fault(items: &[[u32; 7]], from: usize) -> Fault
-    requires { ⌜ from + length (now items) * 19 ≤ lastPlace ⌝ }
+    requires { ⌜ from + length (now items) * recordSize itemRecord ≤ lastPlace ⌝ }
     ensures { λ r. ⌜ (faultOf r ≡ rowsFault itemRecord (now (items .entry)) from) × LookedAt 7 itemRecord (now (items .entry)) from ⌝ }
 {
     let mut at = from;
@@ -147,7 +147,7 @@ fn put_tracks(tracks: &[[u32; 4]], bytes: &mut [u8])
 }
 
 fn put_items(items: &[[u32; 7]], bytes: &mut [u8], at: usize)
-    requires { ⌜ (itemsFault (now items) at ≡ fine) × EachLong 7 (now items) × (at + 2 + length (now items) * 19 ≤ length (now bytes)) ⌝ }
+    requires { ⌜ (itemsFault (now items) at ≡ fine) × EachLong 7 (now items) × (at + 2 + length (now items) * recordSize itemRecord ≤ length (now bytes)) ⌝ }
     ensures { λ _. ⌜ now (bytes .exit) ≡ put at (sectionBytes itemRecord (now (items .entry))) (now (bytes .entry)) ⌝ }
 {
     put_two(items.len() as u32, bytes, at);
@@ -155,7 +155,7 @@ fn put_items(items: &[[u32; 7]], bytes: &mut [u8], at: usize)
 }
 
 fn put_track_rows(tracks: &[[u32; 4]], bytes: &mut [u8], from: usize)
-    requires { ⌜ (rowsFault trackRecord (now tracks) from ≡ fine) × EachLong 4 (now tracks) × (from + length (now tracks) * 10 ≤ length (now bytes)) ⌝ }
+    requires { ⌜ (rowsFault trackRecord (now tracks) from ≡ fine) × EachLong 4 (now tracks) × (from + length (now tracks) * recordSize trackRecord ≤ length (now bytes)) ⌝ }
     ensures { λ _. ⌜ now (bytes .exit) ≡ put from (rowsBytes trackRecord (now (tracks .entry))) (now (bytes .entry)) ⌝ }
 {
     let mut at = from;
@@ -168,7 +168,7 @@ fn put_track_rows(tracks: &[[u32; 4]], bytes: &mut [u8], from: usize)
 }
 
 fn put_item_rows(items: &[[u32; 7]], bytes: &mut [u8], from: usize)
-    requires { ⌜ (rowsFault itemRecord (now items) from ≡ fine) × EachLong 7 (now items) × (from + length (now items) * 19 ≤ length (now bytes)) ⌝ }
+    requires { ⌜ (rowsFault itemRecord (now items) from ≡ fine) × EachLong 7 (now items) × (from + length (now items) * recordSize itemRecord ≤ length (now bytes)) ⌝ }
     ensures { λ _. ⌜ now (bytes .exit) ≡ put from (rowsBytes itemRecord (now (items .entry))) (now (bytes .entry)) ⌝ }
 {
     let mut at = from;

@@ -19,6 +19,7 @@ use Rattle.sheet.specs.declared.writing.WriteAnswer.{WriteAnswer}
 use Rattle.sheet.specs.declared.writing.WriteAnswer.the-variants as ofWrite
 use Rattle.sheet.specs.declared.EndAnswer.{EndAnswer}
 use Rattle.sheet.specs.declared.EndAnswer.the-variants as ofEnd
+use Rattle.rows.specs.Shapes.{width}
 use Rattle.sheet.proofs.WriteCall.{write-refused-by-space}
 use Rattle.torrivask.specs.Sheets.{readLeft, readFace, rowSheet, writeLeft, writeFace, endLeft, endFace}
 
@@ -39,6 +40,7 @@ module _ (answer : ReadAnswer) (tracks items : List Row) (call : ReadOutcome) (i
 module _ (row : Row) (tracks items : List Row) (lent : List ℕ) (long : length row ≡ 5) (fault : Fault) (looked : faultOf fault ≡ rowFault spaceRecord row 2) (size place : ℕ) where
   pub space-refused : (refusal : Refusal) (n p : ℕ) → fault ≡ Found refusal → n ≡ numberOf refusal → p ≡ placeOf refusal
       → writeLeft n lent size p ≡ writeFace (writeCall (rowSheet row tracks items) lent) size place
+  unfolding width
   space-refused refusal n p found number at =
       let at-fault : rowFault spaceRecord (rowSheet row tracks items .space) 2 ≡ refusalFault refusal = sym looked ∙ ap faultOf found in
       rw (number, at)

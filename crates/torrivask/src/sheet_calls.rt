@@ -9,9 +9,6 @@ ghost use mathlib.Core.Path.{_≡_};
 ghost use Rattle.sheet.specs.Rule.{readCall, writeCall, endCall};
 ghost use Rattle.torrivask.specs.Sheets.{readLeft, readFace, rowSheet, writeLeft, writeFace, endLeft, endFace};
 
-// Where the record of the space stands in a sheet.
-const SPACE_AT: usize = 2;
-
 #[no_mangle]
 pub extern "C" fn torrivask_read_sheet(
     sheet: &[u8],
@@ -54,7 +51,7 @@ pub extern "C" fn torrivask_write_sheet(
 ) -> u32
     ensures { λ r. ⌜ writeLeft r (now (bytes .exit)) (now (length .exit)) (now (place .exit)) ≡ writeFace (writeCall (rowSheet (now (space .entry)) (now (tracks .entry)) (now (items .entry))) (now (bytes .entry))) (now (length .entry)) (now (place .entry)) ⌝ }
 {
-    let fault = rows::space_fault(*space, SPACE_AT);
+    let fault = rows::space_fault(*space, sheet::SPACE_AT);
     match fault {
         Fault::Found(refusal) => {
             *place = refusal.place() as u64;

@@ -5,6 +5,7 @@ use lib.Seq.{length-take-le}
 use Rattle.sheet.specs.Answer.{sheetOf}
 use Rattle.sheet.proofs.Told.{SheetWritten, bytes-of-written}
 use Rattle.round_trip.proofs.Carries.{carry-refused, carry-read}
+use Rattle.rows.specs.Shapes.{width}
 use Rattle.round_trip.proofs.write_and_read.Statement.{statement}
 use Rattle.round_trip.proofs.write_and_read.Tie as tie
 use Rattle.round_trip.proofs.write_and_read.Reads as reads
@@ -67,6 +68,7 @@ same-length-4 : tie.Need-same-length-4
 same-length-4 c = search needs
 
 returns-2 : tie.Need-returns-2
+unfolding width
 returns-2 c =
     let entry = c .before .before .before .before .before .before .before .before .before .before .before .before .before .before .before .before .args in
     let call = c .before .before .before .before .before .before .before .before .before .before .before .write in

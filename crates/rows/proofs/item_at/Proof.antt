@@ -1,6 +1,6 @@
 -- `item_at` is the row of the item at a place: each part of the record in its turn. Assumes nothing.
 use borrow.Author.Needs.{needs}
-use Rattle.records.specs.Rule.{rowAt}
+use Rattle.records.specs.Rule.{rowAt, recordSize}
 use Rattle.rows.proofs.item_at.Statement.{statement}
 use Rattle.rows.proofs.item_at.Tie as tie
 
@@ -14,33 +14,40 @@ add-max-content : tie.Need-add-max-content
 add-max-content c = search needs
 
 four-at-requires : tie.Need-four-at-requires
+unfolding recordSize
 four-at-requires c κs = search needs
 
 byte-at-requires : tie.Need-byte-at-requires
+unfolding recordSize
 byte-at-requires c κs = search needs
 
 add-four-at : tie.Need-add-four-at
 add-four-at c = search needs
 
 four-at-requires-2 : tie.Need-four-at-requires-2
+unfolding recordSize
 four-at-requires-2 c κs = search needs
 
 byte-at-requires-2 : tie.Need-byte-at-requires-2
+unfolding recordSize
 byte-at-requires-2 c κs = search needs
 
 add-four-at-2 : tie.Need-add-four-at-2
 add-four-at-2 c = search needs
 
 four-at-requires-3 : tie.Need-four-at-requires-3
+unfolding recordSize
 four-at-requires-3 c κs = search needs
 
 byte-at-requires-3 : tie.Need-byte-at-requires-3
+unfolding recordSize
 byte-at-requires-3 c κs = search needs
 
 add-four-at-3 : tie.Need-add-four-at-3
 add-four-at-3 c = search needs
 
 four-at-requires-4 : tie.Need-four-at-requires-4
+unfolding recordSize
 four-at-requires-4 c κs = search needs
 
 returns : tie.Need-returns

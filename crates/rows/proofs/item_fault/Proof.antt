@@ -3,15 +3,17 @@ use borrow.Author.Needs.{needs}
 use Rattle.laws.specs.Rows.{elements}
 use mathlib.Core.Path.{sym, ap, _∙_, ap₂}
 use Rattle.records.proofs.Firsts.{first-fine}
-use Rattle.records.specs.Rule.{Row, givenTags, itemRecord, rowFault, first}
+use Rattle.records.specs.Rule.{Row, givenTags, itemRecord, rowFault, first, recordSize}
 use Rattle.records.proofs.TagUses.{tagged-fault-of-use}
 use Rattle.rows.proofs.item_fault.Statement.{statement}
 use Rattle.rows.proofs.item_fault.Tie as tie
 
 add-minimum-at : tie.Need-add-minimum-at
+unfolding recordSize
 add-minimum-at c = search needs
 
 add-min-content-at : tie.Need-add-min-content-at
+unfolding recordSize
 add-min-content-at c = search needs
 
 array-read-given : tie.Need-array-read-given
@@ -24,6 +26,7 @@ array-read-fault : tie.Need-array-read-fault
 array-read-fault c = search needs
 
 fault-requires : tie.Need-fault-requires
+unfolding recordSize
 fault-requires c κs = search needs
 
 array-read-given-2 : tie.Need-array-read-given-2
@@ -36,6 +39,7 @@ array-read-fault-2 : tie.Need-array-read-fault-2
 array-read-fault-2 c = search needs
 
 fault-requires-2 : tie.Need-fault-requires-2
+unfolding recordSize
 fault-requires-2 c κs = search needs
 
 array-read-given-3 : tie.Need-array-read-given-3
@@ -48,9 +52,11 @@ array-read-fault-3 : tie.Need-array-read-fault-3
 array-read-fault-3 c = search needs
 
 add-fault : tie.Need-add-fault
+unfolding recordSize
 add-fault c = search needs
 
 fault-requires-3 : tie.Need-fault-requires-3
+unfolding recordSize
 fault-requires-3 c κs = search needs
 
 first-requires : tie.Need-first-requires

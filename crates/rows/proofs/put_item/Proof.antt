@@ -7,7 +7,7 @@ use native.Mathlib.Omega.{arith}
 use lib.ListN.{length, getD}
 use Rattle.laws.specs.Put.{put, put-then}
 use Rattle.laws.specs.Rows.{firsts}
-use Rattle.records.specs.Rule.{itemRecord, fourBytes, twoBytes}
+use Rattle.records.specs.Rule.{itemRecord, fourBytes, twoBytes, recordSize}
 use Rattle.rows.proofs.Listed.{areSmall, partsSmall, SmallTags, small-elements}
 use Rattle.rows.proofs.RowBytes.{pairBytes, tagBytes, bytes-of-item}
 use Rattle.rows.proofs.put_item.Statement.{statement}
@@ -27,6 +27,7 @@ array-read-put-four : tie.Need-array-read-put-four
 array-read-put-four c = search needs
 
 put-four-requires : tie.Need-put-four-requires
+unfolding recordSize
 put-four-requires c κs = search needs
 
 array-read-put-tagged : tie.Need-array-read-put-tagged
@@ -36,6 +37,7 @@ array-read-put-tagged-2 : tie.Need-array-read-put-tagged-2
 array-read-put-tagged-2 c = search needs
 
 put-tagged-requires : tie.Need-put-tagged-requires
+unfolding recordSize
 put-tagged-requires c κs = (search needs, small (c .before .before .before .before .before .before) .0)
 
 array-read-put-tagged-3 : tie.Need-array-read-put-tagged-3
@@ -45,6 +47,7 @@ array-read-put-tagged-4 : tie.Need-array-read-put-tagged-4
 array-read-put-tagged-4 c = search needs
 
 put-tagged-requires-2 : tie.Need-put-tagged-requires-2
+unfolding recordSize
 put-tagged-requires-2 c κs = (search needs, small (c .before .before .before .before .before .before .before .before .before .before) .1 .0)
 
 array-read-put-tagged-5 : tie.Need-array-read-put-tagged-5
@@ -57,6 +60,7 @@ add-put-tagged : tie.Need-add-put-tagged
 add-put-tagged c = search needs
 
 put-tagged-requires-3 : tie.Need-put-tagged-requires-3
+unfolding recordSize
 put-tagged-requires-3 c κs = (search needs, small (c .before .before .before .before .before .before .before .before .before .before .before .before .before .before) .1 .1 .0)
 
 same-length : tie.Need-same-length

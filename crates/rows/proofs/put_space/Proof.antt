@@ -7,7 +7,7 @@ use native.Mathlib.Omega.{arith}
 use lib.ListN.{length, getD}
 use Rattle.laws.specs.Put.{put, put-then}
 use Rattle.laws.specs.Rows.{firsts}
-use Rattle.records.specs.Rule.{spaceRecord, fourBytes, twoBytes}
+use Rattle.records.specs.Rule.{spaceRecord, fourBytes, twoBytes, recordSize}
 use Rattle.rows.proofs.Listed.{areSmall, partsSmall, SmallTags, small-elements}
 use Rattle.rows.proofs.RowBytes.{tagBytes, bytes-of-space}
 use Rattle.rows.proofs.put_space.Statement.{statement}
@@ -27,6 +27,7 @@ array-read-put-tagged-2 : tie.Need-array-read-put-tagged-2
 array-read-put-tagged-2 c = search needs
 
 put-tagged-requires : tie.Need-put-tagged-requires
+unfolding recordSize
 put-tagged-requires c κs = (search needs, small (c .before .before) .0)
 
 array-read-put-tagged-3 : tie.Need-array-read-put-tagged-3
@@ -36,6 +37,7 @@ array-read-put-tagged-4 : tie.Need-array-read-put-tagged-4
 array-read-put-tagged-4 c = search needs
 
 put-tagged-requires-2 : tie.Need-put-tagged-requires-2
+unfolding recordSize
 put-tagged-requires-2 c κs = (search needs, small (c .before .before .before .before .before .before) .1 .0)
 
 array-read-put-byte : tie.Need-array-read-put-byte
@@ -45,6 +47,7 @@ add-put-byte : tie.Need-add-put-byte
 add-put-byte c = search needs
 
 put-byte-requires : tie.Need-put-byte-requires
+unfolding recordSize
 put-byte-requires c κs = (search needs, small (c .before .before .before .before .before .before .before .before .before .before) .1 .1 .0)
 
 same-length : tie.Need-same-length

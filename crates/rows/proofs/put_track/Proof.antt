@@ -7,7 +7,7 @@ use native.Mathlib.Omega.{arith}
 use lib.ListN.{length, getD}
 use Rattle.laws.specs.Put.{put, put-then}
 use Rattle.laws.specs.Rows.{firsts}
-use Rattle.records.specs.Rule.{trackRecord, fourBytes, twoBytes}
+use Rattle.records.specs.Rule.{trackRecord, fourBytes, twoBytes, recordSize}
 use Rattle.rows.proofs.Listed.{areSmall, partsSmall, SmallTags, small-elements}
 use Rattle.rows.proofs.RowBytes.{tagBytes, bytes-of-track}
 use Rattle.rows.proofs.put_track.Statement.{statement}
@@ -24,6 +24,7 @@ array-read-put-tagged-2 : tie.Need-array-read-put-tagged-2
 array-read-put-tagged-2 c = search needs
 
 put-tagged-requires : tie.Need-put-tagged-requires
+unfolding recordSize
 put-tagged-requires c κs = (search needs, small (c .before .before) .0)
 
 array-read-put-tagged-3 : tie.Need-array-read-put-tagged-3
@@ -36,6 +37,7 @@ add-put-tagged : tie.Need-add-put-tagged
 add-put-tagged c = search needs
 
 put-tagged-requires-2 : tie.Need-put-tagged-requires-2
+unfolding recordSize
 put-tagged-requires-2 c κs = (search needs, small (c .before .before .before .before .before .before) .1 .0)
 
 same-length : tie.Need-same-length

@@ -3,12 +3,13 @@ use borrow.Author.Needs.{needs}
 use Rattle.laws.specs.Rows.{elements}
 use mathlib.Core.Path.{sym, ap, _∙_, ap₂}
 use Rattle.records.proofs.Firsts.{first-fine}
-use Rattle.records.specs.Rule.{Row, constraintTags, givenTags, spaceRecord, rowFault, first}
+use Rattle.records.specs.Rule.{Row, constraintTags, givenTags, spaceRecord, rowFault, first, recordSize}
 use Rattle.records.proofs.TagUses.{tagged-fault-of-use}
 use Rattle.rows.proofs.space_fault.Statement.{statement}
 use Rattle.rows.proofs.space_fault.Tie as tie
 
 add-inner-at : tie.Need-add-inner-at
+unfolding recordSize
 add-inner-at c = search needs
 
 array-read-constraint : tie.Need-array-read-constraint
@@ -21,6 +22,7 @@ array-read-fault : tie.Need-array-read-fault
 array-read-fault c = search needs
 
 fault-requires : tie.Need-fault-requires
+unfolding recordSize
 fault-requires c κs = search needs
 
 array-read-given : tie.Need-array-read-given
@@ -33,12 +35,14 @@ array-read-fault-2 : tie.Need-array-read-fault-2
 array-read-fault-2 c = search needs
 
 fault-requires-2 : tie.Need-fault-requires-2
+unfolding recordSize
 fault-requires-2 c κs = search needs
 
 array-read-stretch-fault : tie.Need-array-read-stretch-fault
 array-read-stretch-fault c = search needs
 
 add-stretch-fault : tie.Need-add-stretch-fault
+unfolding recordSize
 add-stretch-fault c = search needs
 
 stretch-fault-requires : tie.Need-stretch-fault-requires

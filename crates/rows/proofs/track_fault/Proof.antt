@@ -3,7 +3,7 @@ use borrow.Author.Needs.{needs}
 use Rattle.laws.specs.Rows.{elements}
 use mathlib.Core.Path.{sym, ap, _∙_, ap₂}
 use Rattle.records.proofs.Firsts.{first-fine}
-use Rattle.records.specs.Rule.{Row, minimumTags, maximumTags, trackRecord, rowFault, first}
+use Rattle.records.specs.Rule.{Row, minimumTags, maximumTags, trackRecord, rowFault, first, recordSize}
 use Rattle.records.proofs.TagUses.{tagged-fault-of-use}
 use Rattle.rows.proofs.track_fault.Statement.{statement}
 use Rattle.rows.proofs.track_fault.Tie as tie
@@ -18,6 +18,7 @@ array-read-fault : tie.Need-array-read-fault
 array-read-fault c = search needs
 
 fault-requires : tie.Need-fault-requires
+unfolding recordSize
 fault-requires c κs = search needs
 
 array-read-maximum : tie.Need-array-read-maximum
@@ -30,9 +31,11 @@ array-read-fault-2 : tie.Need-array-read-fault-2
 array-read-fault-2 c = search needs
 
 add-fault : tie.Need-add-fault
+unfolding recordSize
 add-fault c = search needs
 
 fault-requires-2 : tie.Need-fault-requires-2
+unfolding recordSize
 fault-requires-2 c κs = search needs
 
 first-requires : tie.Need-first-requires

@@ -6,7 +6,7 @@ use native.Mathlib.Omega.{arith}
 use lib.ListN.{length}
 use Rattle.rounds.specs.Rule.{mostTracks}
 use Rattle.records.proofs.Firsts.{le-of-count-fine}
-use Rattle.sheet.specs.Rule.{tracksAt, fine}
+use Rattle.sheet.specs.Rule.{tracksAt, fine, recordSize}
 use Rattle.sheet.specs.Content.{tracksFault, itemsFault, ItemsLooked}
 use Rattle.sheet.proofs.Looks.{first-of-found, fine-of-passed, never-of-found, first-of-fine}
 use Rattle.sheet.proofs.writing.content_fault.Statement.{statement}
@@ -34,6 +34,7 @@ items-after-requires : tie.Need-items-after-requires
 items-after-requires c κs = few c
 
 items-fault-requires : tie.Need-items-fault-requires
+unfolding recordSize
 items-fault-requires c κs = let n = few (c .before) in omega (arith, c .items-after .ensures)
 
 returns-2 : tie.Need-returns-2

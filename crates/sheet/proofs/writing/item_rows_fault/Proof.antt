@@ -10,7 +10,7 @@ use Rattle.sheet.proofs.writing.item_rows_fault.Statement.{statement}
 use Rattle.sheet.proofs.writing.item_rows_fault.Tie as tie
 
 abbrev Inv-loop : tie.InvT-loop
-Inv-loop items from at₀ i₀ at i = (i ≤ length items) × (at ≡ from + i * 19) × Searched 7 itemRecord items from i at
+Inv-loop items from at₀ i₀ at i = (i ≤ length items) × (at ≡ from + i * recordSize itemRecord) × Searched 7 itemRecord items from i at
 
 abbrev μ-loop : tie.MeasureT-loop
 μ-loop items from at₀ i₀ at i = length items - i
@@ -25,6 +25,7 @@ shared-slice-copy-out-item-fault : tie.Need-shared-slice-copy-out-item-fault Inv
 shared-slice-copy-out-item-fault c = search needs
 
 item-fault-requires : tie.Need-item-fault-requires Inv-loop μ-loop
+unfolding recordSize
 item-fault-requires c κs = search needs
 
 is-fine-requires : tie.Need-is-fine-requires Inv-loop μ-loop
@@ -37,6 +38,7 @@ returns c =
     searched-found _ _ _ _ _ _ (turn .before .loop .inv .2) (turn .loop-test .taken) _ (look .item-fault .ensures) (c .before .is-fine .ensures) (c .if1 .taken)
 
 add-at : tie.Need-add-at Inv-loop μ-loop
+unfolding recordSize
 add-at c = search needs
 
 add-i : tie.Need-add-i Inv-loop μ-loop

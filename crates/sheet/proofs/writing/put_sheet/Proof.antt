@@ -7,7 +7,7 @@ use Rattle.laws.specs.Put.{put}
 use Rattle.rounds.specs.Rule.{mostTracks}
 use Rattle.records.proofs.Firsts.{fine-both, le-of-count-fine}
 use Rattle.rows.proofs.KindRows.{space-fine}
-use Rattle.sheet.specs.Rule.{Row, tracksAt, spaceRecord, itemRecord, rowFault, rowBytes, fine}
+use Rattle.sheet.specs.Rule.{Row, tracksAt, spaceRecord, itemRecord, rowFault, rowBytes, fine, recordSize}
 use Rattle.sheet.specs.Content.{tracksFault, itemsFault, itemsAfter, sectionBytes}
 use Rattle.sheet.proofs.SheetPut.{put-parts}
 use Rattle.sheet.proofs.writing.put_sheet.Statement.{statement}
@@ -23,6 +23,7 @@ row-requires : tie.Need-row-requires
 row-requires c κs = search needs
 
 put-space-requires : tie.Need-put-space-requires
+unfolding recordSize
 put-space-requires c κs =
     let s = c .before .before .before .before .before .before .before in
     (search needs, ap (λ (row : Row). rowFault spaceRecord row 2) (c .before .row .ensures) ∙ space-fine (s .args .space) 2)

@@ -7,7 +7,7 @@ use lib.ListN.{length}
 use Rattle.laws.specs.Put.{put-then}
 use Rattle.rounds.specs.Rule.{mostTracks}
 use Rattle.records.proofs.Firsts.{le-of-count-fine}
-use Rattle.sheet.specs.Rule.{tracksAt, trackRecord, rowsBytes, twoBytes, fine}
+use Rattle.sheet.specs.Rule.{tracksAt, trackRecord, rowsBytes, twoBytes, fine, recordSize}
 use Rattle.sheet.specs.Content.{rowsFault}
 use Rattle.sheet.proofs.writing.put_tracks.Statement.{statement}
 use Rattle.sheet.proofs.writing.put_tracks.Tie as tie
@@ -20,12 +20,14 @@ cast-put-two : tie.Need-cast-put-two
 cast-put-two c = let few = sound (c .before) .0 in search needs
 
 put-two-requires : tie.Need-put-two-requires
+unfolding recordSize
 put-two-requires c κs = let few = sound (c .before .before) .0 in search needs
 
 add-put-track-rows : tie.Need-add-put-track-rows
 add-put-track-rows c = search needs
 
 put-track-rows-requires : tie.Need-put-track-rows-requires
+unfolding recordSize
 put-track-rows-requires c κs =
     let s = c .before .before .before .before .before .before in
     (sound s .1, s .pre .1, search needs)
@@ -34,7 +36,7 @@ same-length : tie.Need-same-length
 same-length c = search needs
 
 returns : tie.Need-returns
-unfolding twoBytes
+unfolding twoBytes recordSize
 returns c =
     let rows = c .before .before in
     let count = rows .before .before .before .before in

@@ -10,7 +10,7 @@ use Rattle.sheet.proofs.writing.track_rows_fault.Statement.{statement}
 use Rattle.sheet.proofs.writing.track_rows_fault.Tie as tie
 
 abbrev Inv-loop : tie.InvT-loop
-Inv-loop tracks from at₀ i₀ at i = (i ≤ length tracks) × (at ≡ from + i * 10) × Searched 4 trackRecord tracks from i at
+Inv-loop tracks from at₀ i₀ at i = (i ≤ length tracks) × (at ≡ from + i * recordSize trackRecord) × Searched 4 trackRecord tracks from i at
 
 abbrev μ-loop : tie.MeasureT-loop
 μ-loop tracks from at₀ i₀ at i = length tracks - i
@@ -25,6 +25,7 @@ shared-slice-copy-out-track-fault : tie.Need-shared-slice-copy-out-track-fault I
 shared-slice-copy-out-track-fault c = search needs
 
 track-fault-requires : tie.Need-track-fault-requires Inv-loop μ-loop
+unfolding recordSize
 track-fault-requires c κs = search needs
 
 is-fine-requires : tie.Need-is-fine-requires Inv-loop μ-loop
@@ -37,6 +38,7 @@ returns c =
     searched-found _ _ _ _ _ _ (turn .before .loop .inv .2) (turn .loop-test .taken) _ (look .track-fault .ensures) (c .before .is-fine .ensures) (c .if1 .taken)
 
 add-at : tie.Need-add-at Inv-loop μ-loop
+unfolding recordSize
 add-at c = search needs
 
 add-i : tie.Need-add-i Inv-loop μ-loop

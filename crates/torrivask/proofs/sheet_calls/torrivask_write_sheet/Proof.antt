@@ -1,10 +1,12 @@
 -- `torrivask_write_sheet`: a fault of the space's row, or what writing told. Assumes nothing.
+use Rattle.records.specs.Rule.{recordSize}
 use Rattle.torrivask.proofs.Sheets.{space-refused, write-writes, write-refused}
 use borrow.Author.Needs.{needs}
 use Rattle.torrivask.proofs.sheet_calls.torrivask_write_sheet.Statement.{statement}
 use Rattle.torrivask.proofs.sheet_calls.torrivask_write_sheet.Tie as tie
 
 space-fault-requires : tie.Need-space-fault-requires
+unfolding recordSize
 space-fault-requires c κs = search needs
 
 enum-known-fault : tie.Need-enum-known-fault

@@ -27,52 +27,46 @@ enum-told : tie.Need-enum-told
 enum-told c = search needs
 
 space-at-requires : tie.Need-space-at-requires
-unfolding recordSize
 space-at-requires c κs =
     let start = c .before .before .before .before .before .before in
-    let size : c .before .before .before .before .size .result ≡ 11 = c .before .before .before .before .size .ensures ∙ ap (λ (s : Section). recordSize (partsOf s)) (c .enum-told .given .1) in
-    let whole : start .args .at + 11 ≤ length (start .args .bytes .now) = rw size at (whole-of-test (start .args .bytes .now) (start .args .at + c .before .before .before .before .size .result) (c .before .before .before .reaches .ensures) (c .before .before .if1 .left)) in whole
+    let size : c .before .before .before .before .size .result ≡ recordSize spaceRecord = c .before .before .before .before .size .ensures ∙ ap (λ (s : Section). recordSize (partsOf s)) (c .enum-told .given .1) in
+    let whole : start .args .at + recordSize spaceRecord ≤ length (start .args .bytes .now) = rw size at (whole-of-test (start .args .bytes .now) (start .args .at + c .before .before .before .before .size .result) (c .before .before .before .reaches .ensures) (c .before .before .if1 .left)) in whole
 
 space-fault-requires : tie.Need-space-fault-requires
-unfolding recordSize
 space-fault-requires c κs =
     let start = c .before .before .before .before .before .before .before in
-    let size : c .before .before .before .before .before .size .result ≡ 11 = c .before .before .before .before .before .size .ensures ∙ ap (λ (s : Section). recordSize (partsOf s)) (c .before .enum-told .given .1) in
-    let whole : start .args .at + 11 ≤ length (start .args .bytes .now) = rw size at (whole-of-test (start .args .bytes .now) (start .args .at + c .before .before .before .before .before .size .result) (c .before .before .before .before .reaches .ensures) (c .before .before .before .if1 .left)) in omega arith
+    let size : c .before .before .before .before .before .size .result ≡ recordSize spaceRecord = c .before .before .before .before .before .size .ensures ∙ ap (λ (s : Section). recordSize (partsOf s)) (c .before .enum-told .given .1) in
+    let whole : start .args .at + recordSize spaceRecord ≤ length (start .args .bytes .now) = rw size at (whole-of-test (start .args .bytes .now) (start .args .at + c .before .before .before .before .before .size .result) (c .before .before .before .before .reaches .ensures) (c .before .before .before .if1 .left)) in omega arith
 
 enum-told-2 : tie.Need-enum-told-2
 enum-told-2 c = search needs
 
 track-at-requires : tie.Need-track-at-requires
-unfolding recordSize
 track-at-requires c κs =
     let start = c .before .before .before .before .before .before in
-    let size : c .before .before .before .before .size .result ≡ 10 = c .before .before .before .before .size .ensures ∙ ap (λ (s : Section). recordSize (partsOf s)) (c .enum-told2 .given .1) in
-    let whole : start .args .at + 10 ≤ length (start .args .bytes .now) = rw size at (whole-of-test (start .args .bytes .now) (start .args .at + c .before .before .before .before .size .result) (c .before .before .before .reaches .ensures) (c .before .before .if1 .left)) in whole
+    let size : c .before .before .before .before .size .result ≡ recordSize trackRecord = c .before .before .before .before .size .ensures ∙ ap (λ (s : Section). recordSize (partsOf s)) (c .enum-told2 .given .1) in
+    let whole : start .args .at + recordSize trackRecord ≤ length (start .args .bytes .now) = rw size at (whole-of-test (start .args .bytes .now) (start .args .at + c .before .before .before .before .size .result) (c .before .before .before .reaches .ensures) (c .before .before .if1 .left)) in whole
 
 track-fault-requires : tie.Need-track-fault-requires
-unfolding recordSize
 track-fault-requires c κs =
     let start = c .before .before .before .before .before .before .before in
-    let size : c .before .before .before .before .before .size .result ≡ 10 = c .before .before .before .before .before .size .ensures ∙ ap (λ (s : Section). recordSize (partsOf s)) (c .before .enum-told2 .given .1) in
-    let whole : start .args .at + 10 ≤ length (start .args .bytes .now) = rw size at (whole-of-test (start .args .bytes .now) (start .args .at + c .before .before .before .before .before .size .result) (c .before .before .before .before .reaches .ensures) (c .before .before .before .if1 .left)) in omega arith
+    let size : c .before .before .before .before .before .size .result ≡ recordSize trackRecord = c .before .before .before .before .before .size .ensures ∙ ap (λ (s : Section). recordSize (partsOf s)) (c .before .enum-told2 .given .1) in
+    let whole : start .args .at + recordSize trackRecord ≤ length (start .args .bytes .now) = rw size at (whole-of-test (start .args .bytes .now) (start .args .at + c .before .before .before .before .before .size .result) (c .before .before .before .before .reaches .ensures) (c .before .before .before .if1 .left)) in omega arith
 
 enum-told-3 : tie.Need-enum-told-3
 enum-told-3 c = search needs
 
 item-at-requires : tie.Need-item-at-requires
-unfolding recordSize
 item-at-requires c κs =
     let start = c .before .before .before .before .before .before in
-    let size : c .before .before .before .before .size .result ≡ 19 = c .before .before .before .before .size .ensures ∙ ap (λ (s : Section). recordSize (partsOf s)) (c .enum-told3 .given .1) in
-    let whole : start .args .at + 19 ≤ length (start .args .bytes .now) = rw size at (whole-of-test (start .args .bytes .now) (start .args .at + c .before .before .before .before .size .result) (c .before .before .before .reaches .ensures) (c .before .before .if1 .left)) in whole
+    let size : c .before .before .before .before .size .result ≡ recordSize itemRecord = c .before .before .before .before .size .ensures ∙ ap (λ (s : Section). recordSize (partsOf s)) (c .enum-told3 .given .1) in
+    let whole : start .args .at + recordSize itemRecord ≤ length (start .args .bytes .now) = rw size at (whole-of-test (start .args .bytes .now) (start .args .at + c .before .before .before .before .size .result) (c .before .before .before .reaches .ensures) (c .before .before .if1 .left)) in whole
 
 item-fault-requires : tie.Need-item-fault-requires
-unfolding recordSize
 item-fault-requires c κs =
     let start = c .before .before .before .before .before .before .before in
-    let size : c .before .before .before .before .before .size .result ≡ 19 = c .before .before .before .before .before .size .ensures ∙ ap (λ (s : Section). recordSize (partsOf s)) (c .before .enum-told3 .given .1) in
-    let whole : start .args .at + 19 ≤ length (start .args .bytes .now) = rw size at (whole-of-test (start .args .bytes .now) (start .args .at + c .before .before .before .before .before .size .result) (c .before .before .before .before .reaches .ensures) (c .before .before .before .if1 .left)) in omega arith
+    let size : c .before .before .before .before .before .size .result ≡ recordSize itemRecord = c .before .before .before .before .before .size .ensures ∙ ap (λ (s : Section). recordSize (partsOf s)) (c .before .enum-told3 .given .1) in
+    let whole : start .args .at + recordSize itemRecord ≤ length (start .args .bytes .now) = rw size at (whole-of-test (start .args .bytes .now) (start .args .at + c .before .before .before .before .before .size .result) (c .before .before .before .before .reaches .ensures) (c .before .before .before .if1 .left)) in omega arith
 
 returns-2 : tie.Need-returns-2
 returns-2 c =

@@ -5,8 +5,7 @@ use native.Mathlib.Omega.{arith}
 use mathlib.Core.List.{List, [], _∷_}
 use lib.Dec.{leb, eqb}
 use lib.ListN.{length}
-use Rattle.kinds.specs.Kinds.{Row}
-use Rattle.sheet.specs.Rule.{Part, tagged, mark, pair, Fault, fine, fault, first, unless, isIn, taggedFault, rowAt, rowFault, recordSize, recordsFault, wholeTo, twoAt, Section, spaceSection, trackSection, itemSection, countFault, sectionFault, tracksAt, itemsAt, sheetEnd, sheetFault}
+use Rattle.sheet.specs.Rule.{Part, Row, tagged, mark, pair, Fault, fine, fault, first, unless, isIn, taggedFault, rowAt, rowFault, recordSize, recordsFault, wholeTo, twoAt, Section, spaceSection, trackSection, itemSection, countFault, sectionFault, tracksFrom, itemsFrom, faultFrom, sheetEnd, sheetFault}
 
 -- a fault's number, where there is one
 abbrev pub faultNumber : Fault → ℕ
@@ -54,10 +53,13 @@ section-le section bytes p =
     (first-le (wholeTo bytes (p + 2)) _ 5 (whole-le bytes (p + 2)) (unless-le (section .allows (twoAt bytes p)) 3 p 5 (omega arith)))
     (records-le (section .parts) bytes (twoAt bytes p) (p + 2))
 
+pub fault-from-le : (bytes : List ℕ) (p : ℕ) → faultNumber (faultFrom bytes p) ≤ 5
+unfolding faultFrom
+fault-from-le bytes p =
+    first-le (sectionFault spaceSection bytes p) _ 5 (section-le spaceSection bytes p)
+    (first-le (sectionFault trackSection bytes (tracksFrom p)) _ 5 (section-le trackSection bytes (tracksFrom p))
+    (section-le itemSection bytes (itemsFrom bytes p)))
+
 pub sheet-fault-le : (bytes : List ℕ) → faultNumber (sheetFault bytes) ≤ 5
 unfolding sheetFault
-sheet-fault-le bytes =
-    first-le (sectionFault spaceSection bytes 0) _ 5 (section-le spaceSection bytes 0)
-    (first-le (sectionFault trackSection bytes tracksAt) _ 5 (section-le trackSection bytes tracksAt)
-    (first-le (sectionFault itemSection bytes (itemsAt bytes)) _ 5 (section-le itemSection bytes (itemsAt bytes))
-    (unless-le (leb (length bytes) (sheetEnd bytes)) 2 (sheetEnd bytes) 5 (omega arith))))
+sheet-fault-le bytes = first-le (faultFrom bytes 0) _ 5 (fault-from-le bytes 0) (unless-le (leb (length bytes) (sheetEnd bytes)) 2 (sheetEnd bytes) 5 (omega arith))

@@ -1,11 +1,11 @@
--- `sheet_end` is where the sheet ends. Assumes nothing.
+-- `end_from` is where the sheet ends. Assumes nothing.
 use borrow.Author.Needs.{needs}
 use Rattle.sheet.specs.Rule.{recordSize}
-use Rattle.sheet.proofs.sections.sheet_end.Statement.{statement}
-use Rattle.sheet.proofs.sections.sheet_end.Tie as tie
+use Rattle.sheet.proofs.sections.end_from.Statement.{statement}
+use Rattle.sheet.proofs.sections.end_from.Tie as tie
 
-items-at-requires : tie.Need-items-at-requires
-items-at-requires c κs = search needs
+items-from-requires : tie.Need-items-from-requires
+items-from-requires c κs = search needs
 
 two-at-requires : tie.Need-two-at-requires
 two-at-requires c κs = search needs
@@ -26,11 +26,11 @@ returns : tie.Need-returns
 unfolding recordSize
 returns c = cc
 
-pub sheet-end-spec : {M : Type 1} → statement M
-sheet-end-spec =
+pub end-from-spec : {M : Type 1} → statement M
+end-from-spec =
     tie.close
     (tie.spec
-    items-at-requires
+    items-from-requires
     two-at-requires
     cast-count
     add-result

@@ -7,6 +7,7 @@ use mathlib.Core.List.{List}
 use lib.ListN.{length, getD}
 use Rattle.laws.specs.Rows.{firsts, elements}
 use Rattle.records.specs.Rule.{Row, Part, constraintTags, givenTags, minimumTags, maximumTags, stretchBytes, spaceRecord, trackRecord, itemRecord, isIn, taggedFault, rowFault, fine, fault, unless}
+use Rattle.rows.specs.Shapes.{width}
 use Rattle.kinds.specs.Kinds.{contribution, amountAt, itemRow, itemOf}
 use Rattle.sheet_kinds.specs.Kinds.{spaceRow, spaceOf, sheetTrackRow, sheetTrackOf}
 use Rattle.kinds.specs.declared.amount.Amount.the-variants.{Absent}
@@ -31,8 +32,8 @@ pub space-fine : (s : Space) (p : ℕ) → rowFault spaceRecord (spaceRow s) p �
 unfolding rowFault
 space-fine s p = rw (constraint-said (s .constraint) .1 p, amount-said (s .inner) .1 (p + 5), bit-said (s .stretch) .1)
 
-pub row-of-space : (row : Row) (p : ℕ) → length row ≡ 5 → rowFault spaceRecord row p ≡ fine → spaceRow (spaceOf row) ≡ row
-unfolding rowFault
+pub row-of-space : (row : Row) (p : ℕ) → length row ≡ width spaceRecord → rowFault spaceRecord row p ≡ fine → spaceRow (spaceOf row) ≡ row
+unfolding rowFault width
 row-of-space row p l e =
     let x = fine-both (taggedFault constraintTags (getD row 0 0) (getD row 1 0) p) _ (fine-elements spaceRecord 5 row p l e) in
     let y = fine-both (taggedFault givenTags (getD row 2 0) (getD row 3 0) (p + 5)) _ (x .1) in
@@ -51,8 +52,8 @@ pub track-fine : (t : SheetTrack) (p : ℕ) → rowFault trackRecord (sheetTrack
 unfolding rowFault
 track-fine t p = rw (minimum-said (t .minimum) .1 p, maximum-said (t .maximum) .1 (p + 5))
 
-pub row-of-track : (row : Row) (p : ℕ) → length row ≡ 4 → rowFault trackRecord row p ≡ fine → sheetTrackRow (sheetTrackOf row) ≡ row
-unfolding rowFault
+pub row-of-track : (row : Row) (p : ℕ) → length row ≡ width trackRecord → rowFault trackRecord row p ≡ fine → sheetTrackRow (sheetTrackOf row) ≡ row
+unfolding rowFault width
 row-of-track row p l e =
     let x = fine-both (taggedFault minimumTags (getD row 0 0) (getD row 1 0) p) _ (fine-elements trackRecord 4 row p l e) in
     let y = fine-both (taggedFault maximumTags (getD row 2 0) (getD row 3 0) (p + 5)) _ (x .1) in
@@ -82,8 +83,8 @@ item-fine i p =
       amount-said (amountAt i kind.MaxContent) .1 (p + 4 + 5 + 5),
     )
 
-pub row-of-item : (row : Row) (p : ℕ) → length row ≡ 7 → rowFault itemRecord row p ≡ fine → itemRow (itemOf row) ≡ row
-unfolding rowFault
+pub row-of-item : (row : Row) (p : ℕ) → length row ≡ width itemRecord → rowFault itemRecord row p ≡ fine → itemRow (itemOf row) ≡ row
+unfolding rowFault width
 row-of-item row p l e =
     let x = fine-both (taggedFault givenTags (getD row 1 0) (getD row 2 0) (p + 4)) _ (fine-elements itemRecord 7 row p l e) in
     let y = fine-both (taggedFault givenTags (getD row 3 0) (getD row 4 0) (p + 4 + 5)) _ (x .1) in

@@ -13,6 +13,7 @@ ghost use lib.ListN.{length};
 ghost use Rattle.laws.specs.Put.{put};
 ghost use Rattle.records.specs.Rule.{spaceRecord, trackRecord, itemRecord, recordSize, rowAt, rowBytes, rowFault, fine, fourBytes};
 ghost use Rattle.records.specs.Answer.{faultOf, lastPlace};
+ghost use Rattle.rows.specs.Shapes.{width};
 
 // The bytes of each part of a record: a tag and a u32, a byte, two u16.
 const TAGGED_SIZE: usize = 5;
@@ -76,7 +77,7 @@ pub fn item_at(bytes: &[u8], at: usize) -> [u32; 7]
 
 pub fn space_fault(row: [u32; 5], at: usize) -> Fault
     requires { ⌜ at + recordSize spaceRecord ≤ lastPlace ⌝ }
-    ensures { λ r. ⌜ (faultOf r ≡ rowFault spaceRecord row at) × (length row ≡ 5) ⌝ }
+    ensures { λ r. ⌜ (faultOf r ≡ rowFault spaceRecord row at) × (length row ≡ width spaceRecord) ⌝ }
 {
     let inner_at = at + TAGGED_SIZE;
     let constraint = tags::constraint(row[0]).fault(row[1], at);

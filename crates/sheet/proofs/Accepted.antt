@@ -9,7 +9,7 @@ use lib.Dec.{leb}
 use lib.ListN.{length, drop}
 use borrow.Author.Tests.{leb-true, eqb-true}
 use Rattle.rounds.specs.Rule.{mostTracks}
-use Rattle.rows.specs.Shapes.{AreBytes, width}
+use Rattle.rows.specs.Shapes.{AreBytes}
 use Rattle.records.proofs.Firsts.{first-assoc, fine-both, fine-test}
 use Rattle.rows.proofs.Stands.{Stands, stands-join, two-stands, rows-stand, length-rowsAt, width-rowAt}
 use Rattle.rows.proofs.KindRows.{row-of-space}
@@ -90,7 +90,6 @@ module _ (bytes : List ℕ) (p : ℕ) where
 
   -- the space that is read says its row again
   pub space-row-of-accepted : faultFrom bytes p ≡ fine → spaceRow (spaceOf (rowAt spaceRecord bytes (p + 2))) ≡ rowAt spaceRecord bytes (p + 2)
-  unfolding width
   space-row-of-accepted e = row-of-space (rowAt spaceRecord bytes (p + 2)) (p + 2) (width-rowAt spaceRecord bytes (p + 2)) (accepted-from e .spaceFine)
 
 -- ---- the sheet by itself

@@ -1,4 +1,4 @@
-// The sizing of a board without fault, step after step (lines/specs/Rule.antt is the rule). Its one function is for the board:
+// The sizing of a board without fault, step after step (lines/specs/Rule.antt is the rule). Its one function is for the layout:
 // it asks what the checks have made sure of.
 mod dots;
 mod finish;

@@ -37,10 +37,9 @@ module _ (answer : ReadAnswer) (tracks items : List Row) (call : ReadOutcome) (i
 
 -- ---- writing
 
-module _ (row : Row) (tracks items : List Row) (lent : List ℕ) (long : length row ≡ 5) (fault : Fault) (looked : faultOf fault ≡ rowFault spaceRecord row 2) (size place : ℕ) where
+module _ (row : Row) (tracks items : List Row) (lent : List ℕ) (long : length row ≡ width spaceRecord) (fault : Fault) (looked : faultOf fault ≡ rowFault spaceRecord row 2) (size place : ℕ) where
   pub space-refused : (refusal : Refusal) (n p : ℕ) → fault ≡ Found refusal → n ≡ numberOf refusal → p ≡ placeOf refusal
       → writeLeft n lent size p ≡ writeFace (writeCall (rowSheet row tracks items) lent) size place
-  unfolding width
   space-refused refusal n p found number at =
       let at-fault : rowFault spaceRecord (rowSheet row tracks items .space) 2 ≡ refusalFault refusal = sym looked ∙ ap faultOf found in
       rw (number, at)

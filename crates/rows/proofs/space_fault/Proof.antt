@@ -5,6 +5,7 @@ use mathlib.Core.Path.{sym, ap, _∙_, ap₂}
 use Rattle.records.proofs.Firsts.{first-fine}
 use Rattle.records.specs.Rule.{Row, constraintTags, givenTags, spaceRecord, rowFault, first, recordSize}
 use Rattle.records.proofs.TagUses.{tagged-fault-of-use}
+use Rattle.rows.specs.Shapes.{width}
 use Rattle.rows.proofs.space_fault.Statement.{statement}
 use Rattle.rows.proofs.space_fault.Tie as tie
 
@@ -55,7 +56,7 @@ first-requires-2 : tie.Need-first-requires-2
 first-requires-2 c κs = search needs
 
 returns : tie.Need-returns
-unfolding rowFault
+unfolding rowFault width
 returns c =
     let start = c .before .before .before .before .before .before .before in
     (c .first2 .ensures ∙ ap₂ first (tagged-fault-of-use constraintTags _ _ _ _ _ (c .before .before .before .before .before .fault .ensures) (c .before .before .before .before .before .before .constraint .ensures)) (c .before .first .ensures ∙ ap₂ first (tagged-fault-of-use givenTags _ _ _ _ _ (c .before .before .before .fault2 .ensures) (c .before .before .before .before .given .ensures)) (c .before .before .stretch-fault .ensures ∙ sym (first-fine _))) ∙ ap (λ (row : Row). rowFault spaceRecord row (start .args .at)) (sym (elements 0 5 (start .args .t1) (start .good .0 .1 .0 .1))), start .good .0 .1 .0 .1)

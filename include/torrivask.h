@@ -43,8 +43,10 @@ extern "C" {
  *   12  the lists of a fill are of unequal length, or longer than 256; place 0
  */
 
-/* The numbers of a space's row. Declare the row by this name: where the row grows, a caller that is compiled again grows with it. */
+/* The numbers of a space's row, and the bytes of the longest sheet. Declare rows and buffers by these names: where a sheet grows, a caller
+ * that is compiled again grows with it. */
 #define TORRIVASK_SPACE_NUMBERS 5
+#define TORRIVASK_LONGEST_SHEET 22033
 
 /* Sizes a sheet, in dots. Base and growth limit of track t go to places[t]; places past the tracks keep what they hold. *tracks becomes the
  * number of tracks, *rounds that of the passes in which the tracks are maximised. *definite becomes whether there is a free space: where

@@ -177,12 +177,16 @@ class Cases:
 
 def tracks_said(data):
     """The number of tracks that the bytes give, 2 where they end before it."""
-    return min(300, int.from_bytes(data[13:15], 'little')) if len(data) >= 15 else 2
+    return min(300, int.from_bytes(data[TRACKS_AT:TRACKS_AT + 2], 'little')) if len(data) >= TRACKS_AT + 2 else 2
 
 
 # ---- the cases
 
 W12 = bytes.fromhex('0100 0164000000 0164000000 00 0100 0200000000 0100000000 0100 0000 0100 011E000000 011E000000 011E000000')
+# Where the counts of its tracks and of its items stand, and where it ends: places behind the space are told from these.
+TRACKS_AT = 2 + 11
+ITEMS_AT = TRACKS_AT + 2 + 10
+W12_END = ITEMS_AT + 2 + 19
 AUTOS = [(auto, auto)] * 2
 
 
@@ -220,10 +224,10 @@ def with_bytes(data, *edits):
 def refused_by_bytes(c):
     """1 to 5; the cases of reading have many more."""
     c.group = '1'
-    for length in list(range(4)) + list(range(6, 46, 3)):
+    for length in list(range(4)) + list(range(6, W12_END, 3)):
         c.add(f'W12 cut to {length} bytes', W12[:length], places=1 + length % 2, want=(1, length))
     two = sheet(AUTOS, [item(0, 1, 1, 2, 3), item(1, 1, 1, 2, 3)])
-    for length in (15, 24, 25, 34, 35, 36, 37, 55, 56, 74):
+    for length in (TRACKS_AT + behind for behind in (2, 11, 12, 21, 22, 23, 24, 42, 43, 61)):
         c.add(f'two tracks and items cut to {length} bytes', two[:length], want=(1, length))
     most = sheet([(auto, auto)] * 256, [item(0, 256, 1, 2, 3)] * 1_024)
     assert len(most) == LONGEST == 22_033
@@ -231,24 +235,29 @@ def refused_by_bytes(c):
     c.add('the longest sheet without its last item', most[:-19], want=(1, LONGEST - 19))
     c.group = '2'
     for over in (b'\0', b'\1', b'\xff', b'\0\0', W12):
-        c.add(f'W12, then {len(over)} bytes, the first {over[0]}', W12 + over, want=(2, 46))
+        c.add(f'W12, then {len(over)} bytes, the first {over[0]}', W12 + over, want=(2, W12_END))
     c.add('the longest sheet and a byte', most + b'\0', want=(2, LONGEST))
-    c.add('a board without tracks and a byte', sheet([]) + b'\7', want=(2, 17))
+    c.add('a board without tracks and a byte', sheet([]) + b'\7', want=(2, TRACKS_AT + 4))
     c.group = '3'
     for count in (0, 2, 3, 256, 257, 65_535):
         c.add(f'space count {count}', u16(count) + W12[2:], want=(3, 0))
     for count in (257, 258, 512, 65_535):
-        c.add(f'track count {count}', W12[:13] + u16(count) + W12[15:], places=300, want=(3, 13))
+        c.add(f'track count {count}', W12[:TRACKS_AT] + u16(count) + W12[TRACKS_AT + 2:], places=300, want=(3, TRACKS_AT))
     for count in (1_025, 1_026, 2_048, 65_535):
-        c.add(f'item count {count}', W12[:25] + u16(count) + W12[27:], want=(3, 25))
-    c.add('257 tracks, whole', sheet([(auto, auto)] * 257), places=300, want=(3, 13))
-    c.add('1,025 items, whole', sheet(AUTOS, [item(0, 1, 1, 2, 3)] * 1_025), want=(3, 35))
+        c.add(f'item count {count}', W12[:ITEMS_AT] + u16(count) + W12[ITEMS_AT + 2:], want=(3, ITEMS_AT))
+    c.add('257 tracks, whole', sheet([(auto, auto)] * 257), places=300, want=(3, TRACKS_AT))
+    c.add('1,025 items, whole', sheet(AUTOS, [item(0, 1, 1, 2, 3)] * 1_025), want=(3, TRACKS_AT + 22))
     c.group = '4'
-    for at, least, largest in ((2, 1, 3), (7, 0, 1), (12, 0, 1), (15, 1, 4), (20, 1, 6), (31, 0, 1), (36, 0, 1), (41, 0, 1)):
+    tags = ((2, 1, 3), (7, 0, 1), (12, 0, 1), (TRACKS_AT + 2, 1, 4), (TRACKS_AT + 7, 1, 6),
+            (ITEMS_AT + 6, 0, 1), (ITEMS_AT + 11, 0, 1), (ITEMS_AT + 16, 0, 1))
+    for at, least, largest in tags:
         for tag in ({least - 1, largest + 1, 255} - {-1}):
             c.add(f'byte {at} is {tag}', with_bytes(W12, (at, tag)), want=(4, at))
     c.group = '5'
-    for at, tag, number in ((2, 2, 3), (2, 3, 3), (7, 0, 8), (15, 2, 16), (15, 3, 16), (15, 4, 16), (20, 2, 21), (20, 3, 21), (20, 4, 21), (31, 0, 32), (36, 0, 37), (41, 0, 42)):
+    bare = ((2, 2), (2, 3), (7, 0), *((TRACKS_AT + 2, tag) for tag in (2, 3, 4)), *((TRACKS_AT + 7, tag) for tag in (2, 3, 4)),
+            (ITEMS_AT + 6, 0), (ITEMS_AT + 11, 0), (ITEMS_AT + 16, 0))
+    for at, tag in bare:
+        number = at + 1
         for k in (0, 3):
             clean = with_bytes(W12, (at, tag), *((number + j, 0) for j in range(4)))
             c.add(f'tag {tag} at {at}, byte {number + k} is 1', with_bytes(clean, (number + k, 1)), want=(5, number))
@@ -256,10 +265,10 @@ def refused_by_bytes(c):
     c.add('3 before 4', with_bytes(W12, (0, 2), (2, 9)), want=(3, 0))
     c.add('4 before 5', with_bytes(W12, (2, 9), (7, 0)), want=(4, 2))
     c.add('5 before 4', with_bytes(W12, (7, 0), (12, 9)), want=(5, 8))
-    c.add('4 before 2', with_bytes(W12, (41, 9)) + b'\0', want=(4, 41))
-    c.add('1 before a look inside', with_bytes(W12, (31, 9))[:45], want=(1, 45))
-    c.add('4 before 1 of a later record', with_bytes(two, (41, 9))[:60], want=(4, 41))
-    c.add('4 before 1 of the next section', with_bytes(W12, (12, 7))[:14], want=(4, 12))
+    c.add('4 before 2', with_bytes(W12, (ITEMS_AT + 16, 9)) + b'\0', want=(4, ITEMS_AT + 16))
+    c.add('1 before a look inside', with_bytes(W12, (ITEMS_AT + 6, 9))[:W12_END - 1], want=(1, W12_END - 1))
+    c.add('4 before 1 of a later record', with_bytes(two, (TRACKS_AT + 28, 9))[:TRACKS_AT + 47], want=(4, TRACKS_AT + 28))
+    c.add('4 before 1 of the next section', with_bytes(W12, (12, 7))[:TRACKS_AT + 1], want=(4, 12))
     c.add('5 before 3 of the next section', with_bytes(W12, (16, 1), (26, 255)), want=(5, 16))
 
 
@@ -273,7 +282,9 @@ def refused_by_places(c):
             c.add(f'{tracks} tracks into {places} places', data, places)
     c.add('no tracks into no places', sheet([]), 0, bases=[], free=100)
     c.add('no tracks into 5 places', sheet([]), 5, bases=[])
-    for number, data in ((1, W12[:40]), (2, W12 + b'\0'), (3, with_bytes(W12, (25, 255), (26, 255))), (4, with_bytes(W12, (41, 2))), (5, with_bytes(W12, (41, 0)))):
+    last = ITEMS_AT + 16
+    for number, data in ((1, W12[:40]), (2, W12 + b'\0'), (3, with_bytes(W12, (ITEMS_AT, 255), (ITEMS_AT + 1, 255))),
+                         (4, with_bytes(W12, (last, 2))), (5, with_bytes(W12, (last, 0)))):
         c.add(f'{number} before it', data, 0)
     bad = sheet([(fixed(65_536), auto), (auto, fr(1_000))], [item(0, 9, 3, None, 1)])
     c.add('before 7 to 11', bad, 1, want=(6, 0))

@@ -349,6 +349,10 @@ ITEM = [65_536, 1, 30, 1, 30, 1, 30]
 W12 = bytes.fromhex(
     '0100 0164000000 0164000000 00 0100 0200000000 0100000000 0100 0000 0100 011E000000 011E000000 011E000000'
 )
+# Where the counts of its tracks and of its items stand, and where it ends: places behind the space are told from these.
+TRACKS_AT = 2 + 11
+ITEMS_AT = TRACKS_AT + 2 + 10
+W12_END = ITEMS_AT + 2 + 19
 VALUES = (0, 1, 2, 3, 4, 5, 6, 7, 255)
 
 
@@ -365,20 +369,20 @@ def with_byte(data, at, value):
 
 
 def paper(c):
-    assert len(W12) == 46 and sheet_bytes(SPACE, [TRACK], [ITEM]) == W12
+    assert W12_END == 46 and sheet_bytes(SPACE, [TRACK], [ITEM]) == W12
     c.read('W12', W12, want=True)
-    c.end('W12', W12, want=46)
+    c.end('W12', W12, want=W12_END)
 
 
 def truncations(c):
-    for length in range(46):
+    for length in range(W12_END):
         c.read(f'W12 cut to {length} bytes', W12[:length], want=(1, length))
-    for length in (0, 1, 12, 45):
+    for length in (0, 1, 12, ITEMS_AT + 20):
         c.read(f'W12 cut to {length} bytes, no rows lent', W12[:length], 0, 0, want=(1, length))
 
 
 def byte_edits(c):
-    for at in range(46):
+    for at in range(W12_END):
         for value in VALUES:
             c.read(f'W12, byte {at} is {value}', with_byte(W12, at, value))
 
@@ -402,14 +406,14 @@ def counts(c):
     c.read('1 track, no items', sheet_bytes(SPACE, [TRACK], []), want=True)
     for count in (0, 2, 3, 256, 257, 65_535):
         c.read(f'space count {count}', u16(count) + W12[2:], want=(3, 0))
-    c.read('space count 0 and no space', u16(0) + none[13:], want=(3, 0))
+    c.read('space count 0 and no space', u16(0) + none[TRACKS_AT:], want=(3, 0))
     for tracks in (255, 256, 257):
         many = [track((1, t), (1, t + 300)) if t in (0, tracks - 1) else TRACK for t in range(tracks)]
         for items in (0, 1):
             data = sheet_bytes(SPACE, many, [ITEM] * items)
             if tracks > MOST_TRACKS:
-                c.read(f'{tracks} tracks, {items} items', data, want=(3, 13))
-                c.read(f'{tracks} tracks, {items} items, rows for all', data, tracks, items, want=(3, 13))
+                c.read(f'{tracks} tracks, {items} items', data, want=(3, TRACKS_AT))
+                c.read(f'{tracks} tracks, {items} items, rows for all', data, tracks, items, want=(3, TRACKS_AT))
                 continue
             c.read(f'{tracks} tracks, {items} items, just enough rows', data, tracks, items, want=True)
             c.read(f'{tracks} tracks, {items} items, more rows', data, tracks + 2, items + 1, want=True)
@@ -419,8 +423,8 @@ def counts(c):
         for tracks in (0, 2):
             data = sheet_bytes(SPACE, [TRACK] * tracks, many)
             if items > MOST_ITEMS:
-                c.read(f'{items} items, {tracks} tracks', data, want=(3, 15 + 10 * tracks))
-                c.read(f'{items} items, {tracks} tracks, rows for all', data, tracks, items, want=(3, 15 + 10 * tracks))
+                c.read(f'{items} items, {tracks} tracks', data, want=(3, TRACKS_AT + 2 + 10 * tracks))
+                c.read(f'{items} items, {tracks} tracks, rows for all', data, tracks, items, want=(3, TRACKS_AT + 2 + 10 * tracks))
                 continue
             c.read(f'{items} items, {tracks} tracks, just enough rows', data, tracks, items, want=True)
             c.read(f'{items} items, {tracks} tracks, more rows', data, tracks + 1, items + 2, want=True)
@@ -430,14 +434,14 @@ def counts(c):
     c.read('the most tracks and items, one byte short', most[:-1], 256, 1_024, want=(1, len(most) - 1))
     c.read('the most tracks and items, one byte over', most + b'\0', 256, 1_024, want=(2, len(most)))
     c.read('the most tracks and items, the last tag not listed', with_byte(most, len(most) - 5, 2), want=(4, len(most) - 5))
-    c.read('the most tracks and items, the last track stray', with_byte(most, 13 + 2 + 255 * 10 + 4, 1), want=(5, 13 + 2 + 255 * 10 + 1))
+    c.read('the most tracks and items, the last track stray', with_byte(most, TRACKS_AT + 2 + 255 * 10 + 4, 1), want=(5, TRACKS_AT + 2 + 255 * 10 + 1))
     for count in (258, 512, 65_535):
-        c.read(f'a track count of {count}', W12[:13] + u16(count) + W12[15:], want=(3, 13))
+        c.read(f'a track count of {count}', W12[:TRACKS_AT] + u16(count) + W12[TRACKS_AT + 2:], want=(3, TRACKS_AT))
     for count in (1_026, 2_048, 65_535):
-        c.read(f'an item count of {count}', W12[:25] + u16(count) + W12[27:], want=(3, 25))
-    c.read('a track more than there is', W12[:13] + u16(2) + W12[15:])
-    c.read('an item more than there is', W12[:25] + u16(2) + W12[27:], want=(1, 46))
-    c.read('an item fewer than there is', W12[:25] + u16(0) + W12[27:], want=(2, 27))
+        c.read(f'an item count of {count}', W12[:ITEMS_AT] + u16(count) + W12[ITEMS_AT + 2:], want=(3, ITEMS_AT))
+    c.read('a track more than there is', W12[:TRACKS_AT] + u16(2) + W12[TRACKS_AT + 2:])
+    c.read('an item more than there is', W12[:ITEMS_AT] + u16(2) + W12[ITEMS_AT + 2:], want=(1, W12_END))
+    c.read('an item fewer than there is', W12[:ITEMS_AT] + u16(0) + W12[ITEMS_AT + 2:], want=(2, ITEMS_AT + 2))
 
 
 def stray_numbers(c):
@@ -455,13 +459,13 @@ def bare_tags():
         yield f'constraint {tag}', sheet_bytes([tag, 0, 1, 100, 1], [TRACK], [ITEM]), 3
     yield 'inner size 0', sheet_bytes([1, 100, 0, 0, 1], [TRACK], [ITEM]), 8
     for tag in (2, 3, 4):
-        yield f'minimum {tag}', sheet_bytes(SPACE, [track((tag, 0), (1, 7))], [ITEM]), 16
+        yield f'minimum {tag}', sheet_bytes(SPACE, [track((tag, 0), (1, 7))], [ITEM]), TRACKS_AT + 3
     for tag in (2, 3, 4):
-        yield f'maximum {tag}', sheet_bytes(SPACE, [TRACK, track((1, 7), (tag, 0))], [ITEM]), 31
+        yield f'maximum {tag}', sheet_bytes(SPACE, [TRACK, track((1, 7), (tag, 0))], [ITEM]), TRACKS_AT + 18
     for k, word in enumerate(('minimum', 'min-content', 'max-content')):
         three = [(1, 30)] * 3
         three[k] = (0, 0)
-        yield f'{word} contribution 0', sheet_bytes(SPACE, [TRACK], [item(*three)]), 32 + 5 * k
+        yield f'{word} contribution 0', sheet_bytes(SPACE, [TRACK], [item(*three)]), ITEMS_AT + 7 + 5 * k
 
 
 def bytes_over(c):
@@ -500,16 +504,16 @@ def tags_not_listed(c):
         (2, 'constraint', CONSTRAINT),
         (7, 'inner size', GIVEN),
         (12, 'stretch', STRETCH),
-        (15, 'minimum', MINIMUM),
-        (20, 'maximum', MAXIMUM),
-        (31, 'minimum contribution', GIVEN),
-        (36, 'min-content contribution', GIVEN),
-        (41, 'max-content contribution', GIVEN),
+        (TRACKS_AT + 2, 'minimum', MINIMUM),
+        (TRACKS_AT + 7, 'maximum', MAXIMUM),
+        (ITEMS_AT + 6, 'minimum contribution', GIVEN),
+        (ITEMS_AT + 11, 'min-content contribution', GIVEN),
+        (ITEMS_AT + 16, 'max-content contribution', GIVEN),
     ):
         for tag in (8, 16, 127, 128, 254):
             c.read(f'{word} tag {tag}', with_byte(W12, at, tag), want=(4, at))
     several = sheet_bytes(SPACE, [TRACK] * 3, [ITEM] * 3)
-    for at in (25, 30, 35, 40, 51, 56, 61, 70, 75, 80, 89, 94, 99):
+    for at in (TRACKS_AT + behind for behind in (12, 17, 22, 27, 38, 43, 48, 57, 62, 67, 76, 81, 86)):
         c.read(f'3 tracks and 3 items, byte {at} is 9', with_byte(several, at, 9), want=(4, at))
 
 
@@ -527,44 +531,44 @@ def which_fault(c):
     c.read('stray constraint number before inner size tag', edited((2, 2), (7, 9)), want=(5, 3))
     c.read('inner size tag before the stretch byte', edited((7, 9), (12, 9)), want=(4, 7))
     c.read('stray inner size before the stretch byte', edited((7, 0), (12, 2)), want=(5, 8))
-    c.read('stretch byte before the track count', edited((12, 2), (14, 255)), want=(4, 12))
-    c.read('track count before a track', edited((14, 255), (15, 9)), want=(3, 13))
-    c.read('minimum tag before its number', edited((15, 0), (16, 1)), want=(4, 15))
-    c.read('stray minimum before maximum tag', edited((19, 1), (20, 9)), want=(5, 16))
-    c.read('maximum tag before the item count', edited((20, 0), (26, 255)), want=(4, 20))
-    c.read('stray maximum before the item count', edited((20, 3), (24, 1), (26, 255)), want=(5, 21))
-    c.read('item count before an item', edited((26, 4), (31, 9)), want=(3, 25))
-    c.read('item tag before the next', edited((31, 2), (36, 2)), want=(4, 31))
-    c.read('stray contribution before the next tag', edited((31, 0), (36, 2)), want=(5, 32))
-    c.read('item tag before bytes over', edited((41, 2)) + b'\0', want=(4, 41))
-    c.read('stray contribution before bytes over', edited((41, 0)) + b'\0', want=(5, 42))
+    c.read('stretch byte before the track count', edited((12, 2), (TRACKS_AT + 1, 255)), want=(4, 12))
+    c.read('track count before a track', edited((TRACKS_AT + 1, 255), (TRACKS_AT + 2, 9)), want=(3, TRACKS_AT))
+    c.read('minimum tag before its number', edited((TRACKS_AT + 2, 0), (TRACKS_AT + 3, 1)), want=(4, TRACKS_AT + 2))
+    c.read('stray minimum before maximum tag', edited((TRACKS_AT + 6, 1), (TRACKS_AT + 7, 9)), want=(5, TRACKS_AT + 3))
+    c.read('maximum tag before the item count', edited((TRACKS_AT + 7, 0), (ITEMS_AT + 1, 255)), want=(4, TRACKS_AT + 7))
+    c.read('stray maximum before the item count', edited((TRACKS_AT + 7, 3), (TRACKS_AT + 11, 1), (ITEMS_AT + 1, 255)), want=(5, TRACKS_AT + 8))
+    c.read('item count before an item', edited((ITEMS_AT + 1, 4), (ITEMS_AT + 6, 9)), want=(3, ITEMS_AT))
+    c.read('item tag before the next', edited((ITEMS_AT + 6, 2), (ITEMS_AT + 11, 2)), want=(4, ITEMS_AT + 6))
+    c.read('stray contribution before the next tag', edited((ITEMS_AT + 6, 0), (ITEMS_AT + 11, 2)), want=(5, ITEMS_AT + 7))
+    c.read('item tag before bytes over', edited((ITEMS_AT + 16, 2)) + b'\0', want=(4, ITEMS_AT + 16))
+    c.read('stray contribution before bytes over', edited((ITEMS_AT + 16, 0)) + b'\0', want=(5, ITEMS_AT + 17))
     two = sheet_bytes(SPACE, [TRACK] * 2, [ITEM] * 2)
-    c.read('the earlier track', edited((15, 9), (25, 9), data=two), want=(4, 15))
-    c.read('the earlier track, a number before a tag', edited((16, 1), (25, 9), data=two), want=(5, 16))
-    c.read('the earlier item', edited((41, 9), (60, 9), data=two), want=(4, 41))
-    c.read('the earlier item, a number before a tag', edited((41, 0), (60, 9), data=two), want=(5, 42))
+    c.read('the earlier track', edited((TRACKS_AT + 2, 9), (TRACKS_AT + 12, 9), data=two), want=(4, TRACKS_AT + 2))
+    c.read('the earlier track, a number before a tag', edited((TRACKS_AT + 3, 1), (TRACKS_AT + 12, 9), data=two), want=(5, TRACKS_AT + 3))
+    c.read('the earlier item', edited((TRACKS_AT + 28, 9), (TRACKS_AT + 47, 9), data=two), want=(4, TRACKS_AT + 28))
+    c.read('the earlier item, a number before a tag', edited((TRACKS_AT + 28, 0), (TRACKS_AT + 47, 9), data=two), want=(5, TRACKS_AT + 29))
     c.read('a space cut short, with a tag not listed', edited((2, 9))[:12], want=(1, 12))
-    c.read('a whole space with a tag not listed, then nothing', edited((2, 9))[:13], want=(4, 2))
-    c.read('a stretch byte not listed, then nothing', edited((12, 7))[:13], want=(4, 12))
-    c.read('a stretch byte not listed, then half a count', edited((12, 7))[:14], want=(4, 12))
-    c.read('a track cut short, with a tag not listed', edited((15, 9))[:24], want=(1, 24))
-    c.read('a whole track with a tag not listed, then nothing', edited((15, 9))[:25], want=(4, 15))
-    c.read('a second track cut short, the first at fault', edited((15, 9), data=two)[:30], want=(4, 15))
-    c.read('a second track cut short, itself at fault', edited((25, 9), data=two)[:34], want=(1, 34))
-    c.read('an item cut short, with a tag not listed', edited((31, 9))[:45], want=(1, 45))
-    c.read('a second item cut short, the first at fault', edited((41, 0), data=two)[:60], want=(5, 42))
-    c.read('a second item cut short, itself at fault', edited((60, 9), data=two)[:74], want=(1, 74))
-    c.read('half a count of 255 tracks', edited((13, 255))[:14], want=(1, 14))
-    c.read('half a count of 255 items', edited((25, 255))[:26], want=(1, 26))
+    c.read('a whole space with a tag not listed, then nothing', edited((2, 9))[:TRACKS_AT], want=(4, 2))
+    c.read('a stretch byte not listed, then nothing', edited((12, 7))[:TRACKS_AT], want=(4, 12))
+    c.read('a stretch byte not listed, then half a count', edited((12, 7))[:TRACKS_AT + 1], want=(4, 12))
+    c.read('a track cut short, with a tag not listed', edited((TRACKS_AT + 2, 9))[:TRACKS_AT + 11], want=(1, TRACKS_AT + 11))
+    c.read('a whole track with a tag not listed, then nothing', edited((TRACKS_AT + 2, 9))[:ITEMS_AT], want=(4, TRACKS_AT + 2))
+    c.read('a second track cut short, the first at fault', edited((TRACKS_AT + 2, 9), data=two)[:TRACKS_AT + 17], want=(4, TRACKS_AT + 2))
+    c.read('a second track cut short, itself at fault', edited((TRACKS_AT + 12, 9), data=two)[:TRACKS_AT + 21], want=(1, TRACKS_AT + 21))
+    c.read('an item cut short, with a tag not listed', edited((ITEMS_AT + 6, 9))[:ITEMS_AT + 20], want=(1, ITEMS_AT + 20))
+    c.read('a second item cut short, the first at fault', edited((TRACKS_AT + 28, 0), data=two)[:TRACKS_AT + 47], want=(5, TRACKS_AT + 29))
+    c.read('a second item cut short, itself at fault', edited((TRACKS_AT + 47, 9), data=two)[:TRACKS_AT + 61], want=(1, TRACKS_AT + 61))
+    c.read('half a count of 255 tracks', edited((TRACKS_AT, 255))[:TRACKS_AT + 1], want=(1, TRACKS_AT + 1))
+    c.read('half a count of 255 items', edited((ITEMS_AT, 255))[:ITEMS_AT + 1], want=(1, ITEMS_AT + 1))
     c.read('half a count of the space', b'\2', want=(1, 1))
     c.read('a count of the space that is not allowed, then nothing', b'\2\0', want=(3, 0))
     for tracks, items in ((0, 0), (0, 5), (5, 0)):
         rows = f'{tracks} and {items} rows'
-        c.read(f'1 before 6, {rows}', W12[:45], tracks, items, want=(1, 45))
-        c.read(f'2 before 6, {rows}', W12 + b'\0', tracks, items, want=(2, 46))
-        c.read(f'3 before 6, {rows}', edited((26, 255)), tracks, items, want=(3, 25))
-        c.read(f'4 before 6, {rows}', edited((41, 2)), tracks, items, want=(4, 41))
-        c.read(f'5 before 6, {rows}', edited((41, 0)), tracks, items, want=(5, 42))
+        c.read(f'1 before 6, {rows}', W12[:ITEMS_AT + 20], tracks, items, want=(1, ITEMS_AT + 20))
+        c.read(f'2 before 6, {rows}', W12 + b'\0', tracks, items, want=(2, W12_END))
+        c.read(f'3 before 6, {rows}', edited((ITEMS_AT + 1, 255)), tracks, items, want=(3, ITEMS_AT))
+        c.read(f'4 before 6, {rows}', edited((ITEMS_AT + 16, 2)), tracks, items, want=(4, ITEMS_AT + 16))
+        c.read(f'5 before 6, {rows}', edited((ITEMS_AT + 16, 0)), tracks, items, want=(5, ITEMS_AT + 17))
 
 
 def written_back(c):
@@ -578,7 +582,7 @@ def written_back(c):
 
 
 def bytes_lent(c):
-    for lent in (0, 1, 2, 13, 15, 27):
+    for lent in (0, 1, 2, TRACKS_AT, TRACKS_AT + 2, ITEMS_AT + 2):
         c.write(f'W12 into {lent} bytes', SPACE, [TRACK], [ITEM], lent, want=(6, 0))
     for lent in (48, 100, 1_000):
         c.write(f'W12 into {lent} bytes', SPACE, [TRACK], [ITEM], lent, want=True)
@@ -589,68 +593,68 @@ def bytes_lent(c):
 def rows_with_tags(c):
     high = (255, 256, 257, 258, 261, 512, 65_536, 65_537, 16_777_217, LARGEST)
     for tag in (0, 5, 6, 7) + high:
-        c.write(f'minimum tag {tag}', SPACE, [track((tag, 0), (1, 7))], [ITEM], 46, want=(4, 15))
-        c.write(f'minimum tag {tag} with a number, second track', SPACE, [TRACK, track((tag, 9), (1, 7))], [ITEM], 56, want=(4, 25))
+        c.write(f'minimum tag {tag}', SPACE, [track((tag, 0), (1, 7))], [ITEM], W12_END, want=(4, TRACKS_AT + 2))
+        c.write(f'minimum tag {tag} with a number, second track', SPACE, [TRACK, track((tag, 9), (1, 7))], [ITEM], W12_END + 10, want=(4, TRACKS_AT + 12))
     for tag in (0, 7, 8) + high:
-        c.write(f'maximum tag {tag}', SPACE, [track((1, 7), (tag, 0))], [ITEM], 46, want=(4, 20))
-        c.write(f'maximum tag {tag} with a number, second track', SPACE, [TRACK, track((1, 7), (tag, 9))], [ITEM], 56, want=(4, 30))
+        c.write(f'maximum tag {tag}', SPACE, [track((1, 7), (tag, 0))], [ITEM], W12_END, want=(4, TRACKS_AT + 7))
+        c.write(f'maximum tag {tag} with a number, second track', SPACE, [TRACK, track((1, 7), (tag, 9))], [ITEM], W12_END + 10, want=(4, TRACKS_AT + 17))
     for tag in (2, 3, 4, 7) + high:
         for k, word in enumerate(('minimum', 'min-content', 'max-content')):
             three = [(1, 30)] * 3
             three[k] = (tag, 0)
-            c.write(f'{word} contribution tag {tag}', SPACE, [TRACK], [item(*three)], 46, want=(4, 31 + 5 * k))
+            c.write(f'{word} contribution tag {tag}', SPACE, [TRACK], [item(*three)], W12_END, want=(4, ITEMS_AT + 6 + 5 * k))
             three[k] = (tag, 9)
-            c.write(f'{word} contribution tag {tag} with a number, second item', SPACE, [], [ITEM, item(*three)], 55, want=(4, 40 + 5 * k))
+            c.write(f'{word} contribution tag {tag} with a number, second item', SPACE, [], [ITEM, item(*three)], W12_END + 9, want=(4, TRACKS_AT + 27 + 5 * k))
 
 
 def rows_with_stray_numbers(c):
     for number in (1, 256, 65_536, 16_777_216, LARGEST):
         for tag in (2, 3, 4):
-            c.write(f'minimum {tag} with {number}', SPACE, [track((tag, number), (1, 7))], [ITEM], 46, want=(5, 16))
-            c.write(f'maximum {tag} with {number}', SPACE, [track((1, 7), (tag, number))], [ITEM], 46, want=(5, 21))
+            c.write(f'minimum {tag} with {number}', SPACE, [track((tag, number), (1, 7))], [ITEM], W12_END, want=(5, TRACKS_AT + 3))
+            c.write(f'maximum {tag} with {number}', SPACE, [track((1, 7), (tag, number))], [ITEM], W12_END, want=(5, TRACKS_AT + 8))
         for k, word in enumerate(('minimum', 'min-content', 'max-content')):
             three = [(1, 30)] * 3
             three[k] = (0, number)
-            c.write(f'{word} contribution 0 with {number}', SPACE, [TRACK], [item(*three)], 46, want=(5, 32 + 5 * k))
+            c.write(f'{word} contribution 0 with {number}', SPACE, [TRACK], [item(*three)], W12_END, want=(5, ITEMS_AT + 7 + 5 * k))
 
 
 def rows_too_many(c):
     for tracks in (257, 258, 300):
         for items in (0, 1):
             size = len(sheet_bytes(SPACE, [TRACK] * tracks, [ITEM] * items))
-            c.write(f'{tracks} tracks, {items} items', SPACE, [TRACK] * tracks, [ITEM] * items, size, want=(3, 13))
+            c.write(f'{tracks} tracks, {items} items', SPACE, [TRACK] * tracks, [ITEM] * items, size, want=(3, TRACKS_AT))
     for items in (1_025, 1_026, 1_100):
         for tracks in (0, 2, 256):
             size = len(sheet_bytes(SPACE, [TRACK] * tracks, [ITEM] * items))
-            c.write(f'{items} items, {tracks} tracks', SPACE, [TRACK] * tracks, [ITEM] * items, size, want=(3, 15 + 10 * tracks))
-    c.write('257 tracks and 1,025 items', SPACE, [TRACK] * 257, [ITEM] * 1_025, 100, want=(3, 13))
+            c.write(f'{items} items, {tracks} tracks', SPACE, [TRACK] * tracks, [ITEM] * items, size, want=(3, TRACKS_AT + 2 + 10 * tracks))
+    c.write('257 tracks and 1,025 items', SPACE, [TRACK] * 257, [ITEM] * 1_025, 100, want=(3, TRACKS_AT))
 
 
 def which_fault_of_rows(c):
     bad_minimum, bad_maximum = track((0, 0), (1, 7)), track((1, 7), (0, 0))
     stray = track((2, 1), (1, 7))
     bad_item, stray_item = item((2, 0), (1, 1), (1, 1)), item((0, 1), (1, 1), (1, 1))
-    c.write('3 of the tracks before a track', SPACE, [bad_minimum] * 257, [ITEM], 46, want=(3, 13))
-    c.write('3 of the tracks before 3 of the items', SPACE, [TRACK] * 257, [ITEM] * 1_025, 46, want=(3, 13))
-    c.write('a track before 3 of the items', SPACE, [bad_maximum], [ITEM] * 1_025, 46, want=(4, 20))
-    c.write('a stray number before 3 of the items', SPACE, [stray], [ITEM] * 1_025, 46, want=(5, 16))
-    c.write('3 of the items before an item', SPACE, [TRACK], [bad_item] * 1_025, 46, want=(3, 25))
-    c.write('a track before an item', SPACE, [TRACK, bad_minimum], [bad_item], 65, want=(4, 25))
-    c.write('a stray number before an item', SPACE, [stray], [bad_item], 46, want=(5, 16))
-    c.write('minimum tag before maximum tag', SPACE, [track((0, 0), (0, 0))], [ITEM], 46, want=(4, 15))
-    c.write('minimum tag before its number', SPACE, [track((0, 5), (1, 7))], [ITEM], 46, want=(4, 15))
-    c.write('stray minimum before maximum tag', SPACE, [track((2, 5), (0, 0))], [ITEM], 46, want=(5, 16))
-    c.write('the earlier track', SPACE, [TRACK, stray, bad_minimum], [ITEM], 66, want=(5, 26))
-    c.write('the earlier item', SPACE, [TRACK], [ITEM, stray_item, bad_item], 84, want=(5, 51))
-    c.write('the earlier contribution', SPACE, [TRACK], [item((1, 1), (2, 0), (0, 4))], 46, want=(4, 36))
-    c.write('the earlier contribution, stray', SPACE, [TRACK], [item((1, 1), (0, 4), (2, 0))], 46, want=(5, 37))
-    c.write('the last of 256 tracks', SPACE, [TRACK] * 255 + [bad_maximum], [bad_item], 2_600, want=(4, 13 + 2 + 2_550 + 5))
-    c.write('the last of 1,024 items', SPACE, [TRACK], [ITEM] * 1_023 + [stray_item], 20_000, want=(5, 27 + 1_023 * 19 + 5))
+    c.write('3 of the tracks before a track', SPACE, [bad_minimum] * 257, [ITEM], W12_END, want=(3, TRACKS_AT))
+    c.write('3 of the tracks before 3 of the items', SPACE, [TRACK] * 257, [ITEM] * 1_025, W12_END, want=(3, TRACKS_AT))
+    c.write('a track before 3 of the items', SPACE, [bad_maximum], [ITEM] * 1_025, W12_END, want=(4, TRACKS_AT + 7))
+    c.write('a stray number before 3 of the items', SPACE, [stray], [ITEM] * 1_025, W12_END, want=(5, TRACKS_AT + 3))
+    c.write('3 of the items before an item', SPACE, [TRACK], [bad_item] * 1_025, W12_END, want=(3, ITEMS_AT))
+    c.write('a track before an item', SPACE, [TRACK, bad_minimum], [bad_item], W12_END + 19, want=(4, TRACKS_AT + 12))
+    c.write('a stray number before an item', SPACE, [stray], [bad_item], W12_END, want=(5, TRACKS_AT + 3))
+    c.write('minimum tag before maximum tag', SPACE, [track((0, 0), (0, 0))], [ITEM], W12_END, want=(4, TRACKS_AT + 2))
+    c.write('minimum tag before its number', SPACE, [track((0, 5), (1, 7))], [ITEM], W12_END, want=(4, TRACKS_AT + 2))
+    c.write('stray minimum before maximum tag', SPACE, [track((2, 5), (0, 0))], [ITEM], W12_END, want=(5, TRACKS_AT + 3))
+    c.write('the earlier track', SPACE, [TRACK, stray, bad_minimum], [ITEM], W12_END + 20, want=(5, TRACKS_AT + 13))
+    c.write('the earlier item', SPACE, [TRACK], [ITEM, stray_item, bad_item], W12_END + 38, want=(5, W12_END + 5))
+    c.write('the earlier contribution', SPACE, [TRACK], [item((1, 1), (2, 0), (0, 4))], W12_END, want=(4, ITEMS_AT + 11))
+    c.write('the earlier contribution, stray', SPACE, [TRACK], [item((1, 1), (0, 4), (2, 0))], W12_END, want=(5, ITEMS_AT + 12))
+    c.write('the last of 256 tracks', SPACE, [TRACK] * 255 + [bad_maximum], [bad_item], 2_600, want=(4, TRACKS_AT + 2 + 2_550 + 5))
+    c.write('the last of 1,024 items', SPACE, [TRACK], [ITEM] * 1_023 + [stray_item], 20_000, want=(5, ITEMS_AT + 2 + 1_023 * 19 + 5))
     for lent in (0, 20, 45):
-        c.write(f'3 before 6, {lent} bytes', SPACE, [TRACK] * 257, [], lent, want=(3, 13))
-        c.write(f'3 of the items before 6, {lent} bytes', SPACE, [TRACK], [ITEM] * 1_025, lent, want=(3, 25))
-        c.write(f'4 before 6, {lent} bytes', SPACE, [TRACK], [bad_item], lent, want=(4, 31))
-        c.write(f'5 before 6, {lent} bytes', SPACE, [stray], [ITEM], lent, want=(5, 16))
+        c.write(f'3 before 6, {lent} bytes', SPACE, [TRACK] * 257, [], lent, want=(3, TRACKS_AT))
+        c.write(f'3 of the items before 6, {lent} bytes', SPACE, [TRACK], [ITEM] * 1_025, lent, want=(3, ITEMS_AT))
+        c.write(f'4 before 6, {lent} bytes', SPACE, [TRACK], [bad_item], lent, want=(4, ITEMS_AT + 6))
+        c.write(f'5 before 6, {lent} bytes', SPACE, [stray], [ITEM], lent, want=(5, TRACKS_AT + 3))
 
 
 def ends(c):
@@ -672,31 +676,31 @@ def ends(c):
         c.end(f'{name}, then a byte', sheet + b'\0', want=len(sheet))
         c.end(f'{name}, then W12', sheet + W12, want=len(sheet))
     for over in (b'\0', b'\xff', b'\1\0', W12, none):
-        c.end(f'W12, then {len(over)} bytes, the first {over[0]}', W12 + over, want=46)
-    for length in range(27):
+        c.end(f'W12, then {len(over)} bytes, the first {over[0]}', W12 + over, want=W12_END)
+    for length in range(ITEMS_AT + 2):
         c.end(f'W12 cut to {length} bytes', W12[:length], want=(1, length))
-    for length in (27, 28, 45):
-        c.end(f'W12 cut to {length} bytes', W12[:length], want=46)
+    for length in (ITEMS_AT + 2, ITEMS_AT + 3, ITEMS_AT + 20):
+        c.end(f'W12 cut to {length} bytes', W12[:length], want=W12_END)
     for count in (0, 2, 256, 257, 65_535):
         c.end(f'space count {count}', u16(count) + W12[2:], want=(3, 0))
     for count in (257, 258, 512, 65_535):
-        c.end(f'track count {count}', W12[:13] + u16(count) + W12[15:], want=(3, 13))
+        c.end(f'track count {count}', W12[:TRACKS_AT] + u16(count) + W12[TRACKS_AT + 2:], want=(3, TRACKS_AT))
     for count in (1_025, 1_026, 2_048, 65_535):
-        c.end(f'item count {count}', W12[:25] + u16(count) + W12[27:], want=(3, 25))
-        c.end(f'item count {count}, behind 3 tracks', several[:45] + u16(count) + several[47:], want=(3, 45))
+        c.end(f'item count {count}', W12[:ITEMS_AT] + u16(count) + W12[ITEMS_AT + 2:], want=(3, ITEMS_AT))
+        c.end(f'item count {count}, behind 3 tracks', several[:TRACKS_AT + 32] + u16(count) + several[TRACKS_AT + 34:], want=(3, TRACKS_AT + 32))
     c.end('space count 2, then nothing', b'\2\0', want=(3, 0))
-    c.end('track count 257, then nothing', W12[:13] + u16(257), want=(3, 13))
-    c.end('item count 1,025, then nothing', W12[:25] + u16(1_025), want=(3, 25))
-    c.end('half a track count of 255', W12[:13] + b'\xff', want=(1, 14))
-    c.end('half an item count of 255', W12[:25] + b'\xff', want=(1, 26))
-    c.end('3 of the space before 3 of the tracks', u16(0) + W12[2:13] + u16(300) + W12[15:], want=(3, 0))
-    c.end('3 of the tracks before 3 of the items', W12[:13] + u16(300) + W12[15:25] + u16(2_000) + W12[27:], want=(3, 13))
-    c.end('2 tracks, of which 1 is there', W12[:13] + u16(2) + W12[15:])
-    c.end('200 tracks, of which 1 is there', W12[:13] + u16(200) + W12[15:], want=(1, 46))
-    c.end('300 items, of which 1 is there', W12[:25] + u16(300) + W12[27:], want=27 + 300 * 19)
-    for at in (2, 7, 12, 15, 20, 31, 36, 41):
-        c.end(f'W12, tag at {at} not listed', with_byte(W12, at, 9), want=46)
-    c.end('W12, a stray number', with_byte(W12, 16, 1), want=46)
+    c.end('track count 257, then nothing', W12[:TRACKS_AT] + u16(257), want=(3, TRACKS_AT))
+    c.end('item count 1,025, then nothing', W12[:ITEMS_AT] + u16(1_025), want=(3, ITEMS_AT))
+    c.end('half a track count of 255', W12[:TRACKS_AT] + b'\xff', want=(1, TRACKS_AT + 1))
+    c.end('half an item count of 255', W12[:ITEMS_AT] + b'\xff', want=(1, ITEMS_AT + 1))
+    c.end('3 of the space before 3 of the tracks', u16(0) + W12[2:TRACKS_AT] + u16(300) + W12[TRACKS_AT + 2:], want=(3, 0))
+    c.end('3 of the tracks before 3 of the items', W12[:TRACKS_AT] + u16(300) + W12[TRACKS_AT + 2:ITEMS_AT] + u16(2_000) + W12[ITEMS_AT + 2:], want=(3, TRACKS_AT))
+    c.end('2 tracks, of which 1 is there', W12[:TRACKS_AT] + u16(2) + W12[TRACKS_AT + 2:])
+    c.end('200 tracks, of which 1 is there', W12[:TRACKS_AT] + u16(200) + W12[TRACKS_AT + 2:], want=(1, W12_END))
+    c.end('300 items, of which 1 is there', W12[:ITEMS_AT] + u16(300) + W12[ITEMS_AT + 2:], want=ITEMS_AT + 2 + 300 * 19)
+    for at in (2, 7, 12, TRACKS_AT + 2, TRACKS_AT + 7, ITEMS_AT + 6, ITEMS_AT + 11, ITEMS_AT + 16):
+        c.end(f'W12, tag at {at} not listed', with_byte(W12, at, 9), want=W12_END)
+    c.end('W12, a stray number', with_byte(W12, TRACKS_AT + 3, 1), want=W12_END)
 
 
 def main():

@@ -11,7 +11,7 @@
 #define MOST_TRACKS 256
 
 /* One byte more than the longest sheet has. What is longer is refused from these bytes as it would be from all. */
-#define MOST_BYTES 22034
+#define MOST_BYTES (TORRIVASK_LONGEST_SHEET + 1)
 
 /* How many bytes of the file were read, or -1, with errno to say why. */
 static long read_file(const char *name, uint8_t *into, size_t most)

@@ -454,9 +454,9 @@ fn exceed(random: &mut Random, sheet: &mut Sheet) {
 /// The places of a sheet's tags, each before its four bytes.
 fn tag_places(tracks: usize, items: usize) -> Vec<usize> {
     let mut places = vec![2, 7];
-    places.extend((0..2 * tracks).map(|half| 15 + 5 * half));
+    places.extend((0..2 * tracks).map(|half| sheet::TRACKS_AT + 5 * half));
     for i in 0..items {
-        let item = 17 + 10 * tracks + 19 * i;
+        let item = sheet::items_at(tracks) + 19 * i;
         places.extend([item + 4, item + 9, item + 14]);
     }
     places
@@ -468,8 +468,19 @@ fn damage(random: &mut Random, sheet: &Sheet, bytes: &mut Vec<u8>) {
     let items = sheet.items.len();
     let tags = tag_places(tracks, items);
     let last = bytes.len().max(1) - 1;
+    // Where the two counts stand.
+    let track_count = sheet::TRACKS_AT - 2;
+    let item_count = sheet::items_at(tracks) - 2;
     match random.between(0, 9) {
-        0 => bytes.truncate(random.pick(&[0, 1, 2, 12, 13, 15, last])),
+        0 => bytes.truncate(random.pick(&[
+            0,
+            1,
+            2,
+            track_count - 1,
+            track_count,
+            sheet::TRACKS_AT,
+            last,
+        ])),
         1 => bytes.truncate(random.index(last + 1)),
         2 => {
             for _ in 0..random.pick(&[1, 1, 2, 19, 300]) {
@@ -515,14 +526,14 @@ fn damage(random: &mut Random, sheet: &Sheet, bytes: &mut Vec<u8>) {
                 (0, 0),
                 (0, 2),
                 (0, 256),
-                (13, 257),
-                (13, 65_535),
-                (13, tracks + 1),
-                (13, tracks.saturating_sub(1)),
-                (15 + 10 * tracks, 1025),
-                (15 + 10 * tracks, 65_535),
-                (15 + 10 * tracks, items + 1),
-                (15 + 10 * tracks, items.saturating_sub(1)),
+                (track_count, 257),
+                (track_count, 65_535),
+                (track_count, tracks + 1),
+                (track_count, tracks.saturating_sub(1)),
+                (item_count, 1025),
+                (item_count, 65_535),
+                (item_count, items + 1),
+                (item_count, items.saturating_sub(1)),
             ]);
             if let Some(two) = bytes.get_mut(place..place + 2) {
                 two.copy_from_slice(&(count as u16).to_le_bytes());
@@ -535,12 +546,12 @@ fn damage(random: &mut Random, sheet: &Sheet, bytes: &mut Vec<u8>) {
             if random.percent(50) {
                 more.items.resize(1024, NO_ITEM);
                 *bytes = sheet::bytes_of(&more);
-                bytes[15 + 10 * 256..][..2].copy_from_slice(&1025u16.to_le_bytes());
+                bytes[sheet::items_at(256) - 2..][..2].copy_from_slice(&1025u16.to_le_bytes());
                 bytes.extend([0; 19]);
             } else {
                 *bytes = sheet::bytes_of(&more);
-                bytes[13..15].copy_from_slice(&257u16.to_le_bytes());
-                bytes.splice(15..15, [1, 0, 0, 0, 0, 1, 0, 0, 0, 0]);
+                bytes[track_count..][..2].copy_from_slice(&257u16.to_le_bytes());
+                bytes.splice(sheet::TRACKS_AT..sheet::TRACKS_AT, [1, 0, 0, 0, 0, 1, 0, 0, 0, 0]);
             }
         }
         _ => {
@@ -575,7 +586,7 @@ fn write_call(random: &mut Random) -> Call {
     for _ in 0..faults {
         spoil_rows(random, &mut space, &mut tracks, &mut items);
     }
-    let length = 17 + 10 * tracks.len() + 19 * items.len();
+    let length = sheet::items_at(tracks.len()) + 19 * items.len();
     let lent = random.pick(&[
         length,
         length,

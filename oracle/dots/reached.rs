@@ -7,9 +7,9 @@ use dots::sheet::{self, ItemRow, SpaceRow, TrackRow};
 
 /// The section that a byte stands in, where there are so many tracks.
 fn section_of_byte(tracks: usize, place: usize) -> &'static str {
-    if place < 13 {
+    if place < sheet::TRACKS_AT - 2 {
         "space"
-    } else if place < 15 + 10 * tracks {
+    } else if place < sheet::items_at(tracks) - 2 {
         "tracks"
     } else {
         "items"
@@ -18,7 +18,7 @@ fn section_of_byte(tracks: usize, place: usize) -> &'static str {
 
 /// The count of tracks, 0 where it is not there.
 fn tracks_told(bytes: &[u8]) -> usize {
-    match bytes.get(13..15) {
+    match bytes.get(sheet::TRACKS_AT - 2..sheet::TRACKS_AT) {
         Some(two) => usize::from(two[0]) + 256 * usize::from(two[1]),
         None => 0,
     }
@@ -273,7 +273,7 @@ pub fn by_write(
     lent: usize,
     told: Result<usize, Refusal>,
 ) {
-    let length = 17 + 10 * tracks.len() + 19 * items.len();
+    let length = sheet::items_at(tracks.len()) + 19 * items.len();
     match told {
         Ok(written) => {
             counters.reach("written");

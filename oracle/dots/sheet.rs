@@ -22,9 +22,9 @@ const TAGGED_BYTES: usize = 5;
 
 /// Where the record of the space stands, that of the first track, and behind so many tracks that of the first item.
 const SPACE_AT: usize = COUNT_BYTES;
-const TRACKS_AT: usize = SPACE_AT + SPACE_BYTES + COUNT_BYTES;
+pub const TRACKS_AT: usize = SPACE_AT + SPACE_BYTES + COUNT_BYTES;
 
-fn items_at(tracks: usize) -> usize {
+pub fn items_at(tracks: usize) -> usize {
     TRACKS_AT + TRACK_BYTES * tracks + COUNT_BYTES
 }
 

@@ -9,7 +9,7 @@ use lib.ListN.{length, take, length-append, List·getD-append}
 use lib.Seq.{length-take-le, getD-take}
 use borrow.Author.Tests.{le-leb}
 use Rattle.rounds.specs.Rule.{mostTracks}
-use Rattle.sheet.specs.Rule.{byteAt, twoAt, fine, fault, first, unless, recordSize, trackRecord, itemRecord, mostItems, tracksAt, itemsAt, sheetEnd, sheetFault, EndTold, endAt, endAs, endCall}
+use Rattle.sheet.specs.Rule.{byteAt, twoAt, fine, fault, first, unless, recordSize, trackRecord, itemRecord, mostItems, tracksAt, itemsAt, sheetEnd, sheetFault, EndTold, endAt, endAs, endFromCall, endCall}
 use Rattle.sheet.proofs.Looks.{whole-fine}
 use Rattle.sheet.proofs.Accepted.{accepted}
 use Rattle.sheet.proofs.Same.{two-same, items-at-same}
@@ -27,7 +27,7 @@ byCounts spaces tracks items =
     (behind + 2 + items * recordSize itemRecord)
 
 end-by-counts : (bytes : List ℕ) → itemsAt bytes + 2 ≤ length bytes → endCall bytes ≡ byCounts (twoAt bytes 0) (twoAt bytes tracksAt) (twoAt bytes (itemsAt bytes))
-unfolding endCall byCounts
+unfolding endFromCall byCounts
 end-by-counts bytes h = rw (whole-fine bytes 2 (omega arith), whole-fine bytes (tracksAt + 2) (omega arith), whole-fine bytes (itemsAt bytes + 2) h)
 
 -- ---- bytes that agree up to the last count have one end

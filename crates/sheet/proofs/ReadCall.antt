@@ -10,7 +10,7 @@ use Rattle.records.specs.Answer.{refusalFault}
 use Rattle.records.specs.declared.refusal.Refusal.{Refusal}
 use Rattle.records.proofs.Firsts.{fine-both, fine-test}
 use Rattle.rows.proofs.Stands.{length-rowsAt}
-use Rattle.sheet.specs.Rule.{Row, spaceRecord, trackRecord, itemRecord, rowAt, rowsAt, twoAt, Fault, fine, fault, mostItems, countFault, trackSection, itemSection, spaceSection, tracksFrom, itemsFrom, sheetFrom, countsFaultFrom, tracksAt, itemsAt, sheetEnd, Sheet, sheetAt, sheetFault, enough, onto, ReadTold, sheetRead, readRefused, ReadOutcome, readFault, readSheet, readAs, readCall, countsFault, endCall}
+use Rattle.sheet.specs.Rule.{Row, spaceRecord, trackRecord, itemRecord, rowAt, rowsAt, twoAt, Fault, fine, fault, mostItems, countFault, trackSection, itemSection, spaceSection, tracksFrom, itemsFrom, sheetFrom, countsFaultFrom, tracksAt, itemsAt, Sheet, sheetAt, sheetFault, enough, onto, ReadTold, sheetRead, readRefused, ReadOutcome, readFault, readSheet, readAs, readCall, endFrom, endFromCall}
 use Rattle.sheet_kinds.specs.Kinds.{spaceRow, spaceOf}
 use Rattle.sheet.specs.Answer.{readTold, readLeaves, endTold, Loadable}
 use Rattle.sheet_kinds.specs.declared.space.Space.{Space}
@@ -78,15 +78,14 @@ module _ (bytes : List ℕ) (tracks items : List Row) where
 
 -- ---- the end
 
-module _ (bytes : List ℕ) where
-  pub end-refused : (refusal : Refusal) → refusalFault refusal ≡ countsFault bytes → endTold (end.Refused refusal) ≡ endCall bytes
-  unfolding endCall
+module _ (bytes : List ℕ) (p : ℕ) where
+  pub end-refused : (refusal : Refusal) → refusalFault refusal ≡ countsFaultFrom bytes p → endTold (end.Refused refusal) ≡ endFromCall bytes p
+  unfolding endFromCall
   end-refused refusal e = rw (← e)
 
-  module _ (e : countsFault bytes ≡ fine) where
-    pub end-done : (place : ℕ) → place ≡ sheetEnd bytes → endTold (end.At place) ≡ endCall bytes
-    unfolding endCall
-    end-done place p = rw (e, p)
+  pub end-done : countsFaultFrom bytes p ≡ fine → (place : ℕ) → place ≡ endFrom bytes p → endTold (end.At place) ≡ endFromCall bytes p
+  unfolding endFromCall
+  end-done e place q = rw (e, q)
 
 -- counts without fault are wholly there
 pub counts-whole : (bytes : List ℕ) (p : ℕ) → countsFaultFrom bytes p ≡ fine → (tracksFrom p + 2 ≤ length bytes) × (itemsFrom bytes p + 2 ≤ length bytes)

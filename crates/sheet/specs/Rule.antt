@@ -188,8 +188,9 @@ abbrev pub endAs : Fault → ℕ → EndTold
 endAs fine end = endAt end
 endAs (fault number place) end = endRefused number place
 
-abbrev pub countsFault : List ℕ → Fault
-countsFault bytes = countsFaultFrom bytes 0
+-- of the sheet at a place, and of one by itself
+unfoldable pub endFromCall : List ℕ → ℕ → EndTold
+endFromCall bytes at = endAs (countsFaultFrom bytes at) (endFrom bytes at)
 
-unfoldable pub endCall : List ℕ → EndTold
-endCall bytes = endAs (countsFault bytes) (sheetEnd bytes)
+abbrev pub endCall : List ℕ → EndTold
+endCall bytes = endFromCall bytes 0

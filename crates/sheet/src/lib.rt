@@ -10,7 +10,6 @@ pub use kinds::Contribution;
 pub use kinds::ContributionKind;
 pub use kinds::Item;
 pub use reading::ReadAnswer;
-pub use reading::load_from;
 pub use reading::read;
 use records::Fault;
 pub use records::Refusal;
@@ -18,7 +17,6 @@ pub use sections::EMPTY;
 pub use sections::LONGEST;
 pub use sections::SPACE_AT;
 pub use sections::counts_fault_from;
-pub use sections::end_from;
 pub use sections::fault_from;
 pub use sections::over_fault;
 pub use sheet_kinds::SheetMaximum;
@@ -28,7 +26,7 @@ pub use sheet_kinds::Space;
 pub use writing::WriteAnswer;
 pub use writing::write;
 ghost use mathlib.Core.Path.{_≡_};
-ghost use Rattle.sheet.specs.Rule.{endCall};
+ghost use Rattle.sheet.specs.Rule.{endFromCall, endCall};
 ghost use Rattle.sheet.specs.Answer.{endTold};
 
 pub enum EndAnswer {
@@ -40,9 +38,16 @@ pub enum EndAnswer {
 pub fn end(bytes: &[u8]) -> EndAnswer
     ensures { λ r. ⌜ endTold r ≡ endCall (now (bytes .entry)) ⌝ }
 {
-    let fault = sections::counts_fault_from(bytes, 0);
+    end_from(bytes, 0)
+}
+
+// The same of the sheet that begins at `at`.
+pub fn end_from(bytes: &[u8], at: usize) -> EndAnswer
+    ensures { λ r. ⌜ endTold r ≡ endFromCall (now (bytes .entry)) at ⌝ }
+{
+    let fault = sections::counts_fault_from(bytes, at);
     if let Fault::Found(refusal) = fault {
         return EndAnswer::Refused(refusal);
     }
-    EndAnswer::At(sections::end_from(bytes, 0))
+    EndAnswer::At(sections::counted_end(bytes, at))
 }

@@ -51,7 +51,7 @@ fn read_fault(bytes: &[u8], tracks: usize, items: usize) -> Fault
 }
 
 // Reads a sheet that begins at `at` and has no fault there into rows that are enough for it.
-pub fn load_from(
+pub(crate) fn load_from(
     bytes: &[u8],
     at: usize,
     tracks: &mut [[u32; 4]],

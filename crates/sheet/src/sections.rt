@@ -138,7 +138,8 @@ pub(crate) fn items_from(bytes: &[u8], at: usize) -> usize
     tracks + COUNT_SIZE + count * rows::TRACK_SIZE
 }
 
-pub fn end_from(bytes: &[u8], at: usize) -> usize
+// Where it ends, by counts that are there.
+pub(crate) fn counted_end(bytes: &[u8], at: usize) -> usize
     requires { ⌜ (tracksFrom at + 2 ≤ length (now bytes)) × (itemsFrom (now bytes) at + 2 ≤ length (now bytes)) ⌝ }
     ensures { λ r. ⌜ r ≡ endFrom (now (bytes .entry)) at ⌝ }
 {
@@ -185,7 +186,7 @@ pub(crate) fn sheet_fault(bytes: &[u8]) -> Fault
     if !fault.is_fine() {
         return fault;
     }
-    over_fault(bytes, end_from(bytes, 0))
+    over_fault(bytes, counted_end(bytes, 0))
 }
 
 // 2: bytes follow `end`.

@@ -21,8 +21,8 @@ returns : tie.Need-returns
 unfolding sheetFault
 returns c = first-of-found _ (c .before .before .fault-from .ensures) (c .before .is-fine .ensures) (c .if1 .taken) _
 
-end-from-requires : tie.Need-end-from-requires
-end-from-requires c κs =
+counted-end-requires : tie.Need-counted-end-requires
+counted-end-requires c κs =
     let ok = accepted-from (c .before .before .before .before .args .bytes .now) 0 (sections-fine c) in
     (ok .tracks .count .whole, ok .items .count .whole)
 
@@ -33,8 +33,8 @@ returns-2 : tie.Need-returns-2
 unfolding sheetFault
 returns-2 c =
     c .over-fault .ensures
-    ∙ ap (overFault (c .before .before .before .before .before .before .args .bytes .now)) (c .before .end-from .ensures)
+    ∙ ap (overFault (c .before .before .before .before .before .before .args .bytes .now)) (c .before .counted-end .ensures)
     ∙ first-of-fine _ _ (sections-fine (c .before .before))
 
 pub sheet-fault-spec : {M : Type 1} → statement M
-sheet-fault-spec = tie.close (tie.spec fault-from-requires is-fine-requires returns end-from-requires over-fault-requires returns-2)
+sheet-fault-spec = tie.close (tie.spec fault-from-requires is-fine-requires returns counted-end-requires over-fault-requires returns-2)

@@ -1,8 +1,8 @@
--- `end_from` is where the sheet ends. Assumes nothing.
+-- `counted_end` is where the sheet ends. Assumes nothing.
 use borrow.Author.Needs.{needs}
 use Rattle.sheet.specs.Rule.{recordSize}
-use Rattle.sheet.proofs.sections.end_from.Statement.{statement}
-use Rattle.sheet.proofs.sections.end_from.Tie as tie
+use Rattle.sheet.proofs.sections.counted_end.Statement.{statement}
+use Rattle.sheet.proofs.sections.counted_end.Tie as tie
 
 items-from-requires : tie.Need-items-from-requires
 items-from-requires c κs = search needs
@@ -26,8 +26,8 @@ returns : tie.Need-returns
 unfolding recordSize
 returns c = cc
 
-pub end-from-spec : {M : Type 1} → statement M
-end-from-spec =
+pub counted-end-spec : {M : Type 1} → statement M
+counted-end-spec =
     tie.close
     (tie.spec
     items-from-requires

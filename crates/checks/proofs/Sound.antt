@@ -4,11 +4,11 @@ use mathlib.Core.Path.{_≡_, refl}
 use mathlib.Core.Bool.{Bool, true, false, _||_}
 use Prim.Native.Nat.{ℕ, _+_, _≤_}
 use native.Mathlib.Omega.{arith}
-use mathlib.Core.List.{List, [], _∷_, map}
+use mathlib.Core.List.{List, map}
 use lib.Dec.{ltb, eqb}
 use lib.ListN.{length}
 use borrow.Author.Tests.{ltb-false, eqb-false}
-use Rattle.laws.specs.Lists.{All, some}
+use Rattle.laws.specs.Lists.{some}
 use Rattle.rounds.specs.Rule.{mostDots}
 use Rattle.kinds.specs.Kinds.{amountNumber, constraintNumber, minimumNumber, maximumNumber, amountAt}
 use Rattle.kinds.specs.declared.amount.Amount.{Amount}
@@ -31,7 +31,7 @@ use Rattle.checks.specs.Rule.{mostSize, mostContribution, amountOver, co
 use Rattle.checks.specs.Fits.{SpaceFits}
 use Rattle.spanned.specs.Sound.{mostOf, TrackFits, ItemFits, Sound}
 use Rattle.checks.proofs.LowestRecord.{false-of-fine, none-of-fine}
-use Rattle.laws.specs.Alls.{all-map, all-both}
+use Rattle.laws.specs.Alls.{all-map, all-both, all-image}
 
 neither : (x y : Bool) → x || y ≡ false → (x ≡ false) × (y ≡ false)
 neither true y e = (e, cc)
@@ -100,12 +100,6 @@ item-fits n i e =
 
 -- ---- the board
 
--- what each track has, each resolved track has
-all-resolved : (ts : List SheetTrack) → All (λ (t : SheetTrack). trackOver t ≡ false) ts → All TrackFits (map resolved ts)
-unfolding All
-all-resolved [] a = tt
-all-resolved (t ∷ ts) a = (track-fits t (a .0), all-resolved ts (a .1))
-
 module _ (s : Space) (ts : List SheetTrack) (is : List Item) (e : recordFault s ts is ≡ fine) where
   -- 7 found nothing, and 8 to 11 found nothing
   over-none : (lowestSpace 7 spaceOver s ≡ fine) × (first (lowestTrack 7 trackOver ts) (lowestItem 7 itemOver ts is) ≡ fine)
@@ -126,7 +120,7 @@ module _ (s : Space) (ts : List SheetTrack) (is : List Item) (e : recordFault s 
       let overNone = none-of-fine 7 itemOver (1 + length ts) is (rows .1) in
       let outsideNone = none-of-fine 8 (isOutside count) (1 + count) is outside-none in
       record {
-        tracks = all-resolved ts (none-of-fine 7 trackOver 1 ts (rows .0));
+        tracks = all-image TrackFits resolved (λ (t : SheetTrack). trackOver t ≡ false) track-fits ts (none-of-fine 7 trackOver 1 ts (rows .0));
         items =
             all-map (λ (i : Item). (itemOver i ≡ false) × (isOutside count i ≡ false)) (ItemFits count) (item-fits count) is
             (all-both (λ (i : Item). itemOver i ≡ false) (λ (i : Item). isOutside count i ≡ false) is overNone outsideNone);

@@ -1,5 +1,6 @@
 -- The build paper's marked examples, W1 to W12: one table, and one claim that the checker computes. Assumes nothing: each row
--- is held against the published rules of the fill, of the sizing as a layout hands it its space and tracks, and of the board as called with bytes.
+-- is held against the published rules of the fill, of the sizing as a layout hands it its space and tracks, and of the board as
+-- called with bytes.
 use mathlib.Core.Path.{_≡_, refl}
 use Prim.Native.Nat.{ℕ}
 use mathlib.Core.Bool.{Bool, true, false, _&&_}

@@ -1,5 +1,5 @@
-// The sections of a sheet, front to back: what is wrong with each, and where each stands. A sheet begins at a place of a run of bytes:
-// what is public here is for who has sheets in a longer run, and says what it asks.
+// The sections of a sheet, front to back: what is wrong with each, and where each stands. A sheet begins at a place of a run of bytes, and
+// every place that is told is one of the run.
 use kinds::Item;
 use kinds::Track;
 use records::Fault;

@@ -33,7 +33,7 @@ extern "C" {
  *    3  the space's count is not 1, or more tracks or items than above; the count's first byte
  *    4  a tag or a stretch that is not listed; its byte
  *    5  a number beside a tag that carries none is not 0; its first byte
- *    6  too few places, rows or bytes are lent; place 0
+ *    6  too few sizes, rows or bytes are lent; place 0
  *    7  a number over its limit: 65,535 for fixed sizes, fit-content arguments and contributions, 100,000 for factors, 16,777,215 for
  *       spaces
  *    8  span 0, or start + span over the number of tracks
@@ -48,10 +48,10 @@ extern "C" {
 #define TORRIVASK_SPACE_NUMBERS 5
 #define TORRIVASK_LONGEST_SHEET 22033
 
-/* Sizes a sheet, in dots. Base and growth limit of track t go to places[t]; places past the tracks keep what they hold. *tracks becomes the
+/* Sizes a sheet, in dots. Base and growth limit of track t become sizes[t]; those past the tracks keep what they hold. *tracks becomes the
  * number of tracks, *rounds that of the passes in which the tracks are maximised. *definite becomes whether there is a free space: where
  * there is, it goes to *free, negative for an overfull board; where there is none, *free keeps what it holds. Refuses by 1 to 11. */
-uint32_t torrivask_board(const uint8_t *sheet, size_t sheet_length, uint32_t (*places)[2], size_t place_count, uint32_t *tracks,
+uint32_t torrivask_board(const uint8_t *sheet, size_t sheet_length, uint32_t (*sizes)[2], size_t size_count, uint32_t *tracks,
                          bool *definite, int32_t *free, uint32_t *rounds, uint64_t *place);
 
 /* Hands dots out to the affected tracks, to each at most its room; a track that is not limited takes any amount, and its room is not read.
@@ -62,11 +62,11 @@ uint32_t torrivask_fill(uint32_t dots, const bool *affected, size_t affected_cou
                         const uint32_t *rooms, size_t room_count, uint32_t *gains, size_t gain_count, uint32_t *leftover,
                         uint32_t *rounds, uint64_t *place);
 
-/* Reads a sheet into rows. *columns becomes the number of tracks, *fares that of items; rows past them keep what they hold. Refuses by 1 to
+/* Reads a sheet into rows. *track_count becomes the number of tracks, *item_count that of items; rows past them keep what they hold. Refuses by 1 to
  * 5, then by 6 where either list has too few rows. */
 uint32_t torrivask_read_sheet(const uint8_t *sheet, size_t sheet_length, uint32_t space[TORRIVASK_SPACE_NUMBERS],
-                              uint32_t (*tracks)[4], size_t track_rows, uint32_t (*items)[7], size_t item_rows, uint32_t *columns,
-                              uint32_t *fares, uint64_t *place);
+                              uint32_t (*tracks)[4], size_t track_rows, uint32_t (*items)[7], size_t item_rows,
+                              uint32_t *track_count, uint32_t *item_count, uint64_t *place);
 
 /* Writes the sheet of these rows; its counts are the lengths of the lists. *length becomes the sheet's length; bytes past it keep what they
  * hold. Refuses by 3 to 5 as the sheet's own bytes would show them, so the space comes before the tracks, then by 6. */

@@ -7,7 +7,7 @@
 
 #include "torrivask.h"
 
-/* As many as a board has tracks at most, so that no sheet is refused for want of places. */
+/* As many as a board has tracks at most, so that no sheet is refused for want of sizes. */
 #define MOST_TRACKS 256
 
 /* One byte more than the longest sheet has. What is longer is refused from these bytes as it would be from all. */
@@ -29,12 +29,12 @@ static long read_file(const char *name, uint8_t *into, size_t most)
 
 static void print_board(const uint8_t *sheet, size_t length)
 {
-    uint32_t places[MOST_TRACKS][2];
+    uint32_t sizes[MOST_TRACKS][2];
     uint32_t tracks, rounds;
     bool definite;
     int32_t free_dots;
     uint64_t place;
-    uint32_t refused = torrivask_board(sheet, length, places, MOST_TRACKS, &tracks, &definite, &free_dots, &rounds, &place);
+    uint32_t refused = torrivask_board(sheet, length, sizes, MOST_TRACKS, &tracks, &definite, &free_dots, &rounds, &place);
     if (refused != 0) {
         printf("refused %" PRIu32 " at %" PRIu64 "\n", refused, place);
         return;
@@ -47,7 +47,7 @@ static void print_board(const uint8_t *sheet, size_t length)
     }
     printf(" rounds %" PRIu32 "\n", rounds);
     for (uint32_t t = 0; t < tracks; t++) {
-        printf("%" PRIu32 " %" PRIu32 " %" PRIu32 "\n", t, places[t][0], places[t][1]);
+        printf("%" PRIu32 " %" PRIu32 " %" PRIu32 "\n", t, sizes[t][0], sizes[t][1]);
     }
 }
 

@@ -2,7 +2,7 @@
 //! that cannot be read is one line on standard error, with status 1.
 use std::process::exit;
 
-/// As many as a board has tracks at most, so that no sheet is refused for want of places.
+/// As many as a board has tracks at most, so that no sheet is refused for want of sizes.
 const MOST_TRACKS: usize = 256;
 
 fn main() {
@@ -21,8 +21,8 @@ fn main() {
 }
 
 fn print_board(sheet: &[u8]) {
-    let mut places = [[0; 2]; MOST_TRACKS];
-    match torrivask::board(sheet, &mut places) {
+    let mut sizes = [[0; 2]; MOST_TRACKS];
+    match torrivask::board(sheet, &mut sizes) {
         Err(refusal) => println!("refused {} at {}", refusal.number, refusal.place),
         Ok(board) => {
             let free = match board.free {
@@ -33,7 +33,7 @@ fn print_board(sheet: &[u8]) {
                 "tracks {} free {free} rounds {}",
                 board.tracks, board.rounds
             );
-            for (t, [base, limit]) in places[..board.tracks as usize].iter().enumerate() {
+            for (t, [base, limit]) in sizes[..board.tracks as usize].iter().enumerate() {
                 println!("{t} {base} {limit}");
             }
         }

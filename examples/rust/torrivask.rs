@@ -9,7 +9,7 @@ pub struct Refusal {
 }
 
 /// A track's base size and growth limit, in dots.
-pub type Place = [u32; 2];
+pub type Sizes = [u32; 2];
 
 /// The numbers of a space's row.
 pub const SPACE_NUMBERS: usize = 5;
@@ -64,15 +64,15 @@ fn told<A>(number: u32, place: u64, answer: A) -> Result<A, Refusal> {
 // In every call the pointers are those of slices and variables that live until it is back, with their own lengths, and what is
 // lent for writing is borrowed alone.
 
-/// The size of a sheet's board, track t in places[t]; the places past the tracks stay as they are.
-pub fn board(sheet: &[u8], places: &mut [Place]) -> Result<Board, Refusal> {
+/// The size of a sheet's board, track t in sizes[t]; the sizes past the tracks stay as they are.
+pub fn board(sheet: &[u8], sizes: &mut [Sizes]) -> Result<Board, Refusal> {
     let (mut tracks, mut definite, mut free, mut rounds, mut place) = (0, false, 0, 0, 0);
     let number = unsafe {
         c::torrivask_board(
             sheet.as_ptr(),
             sheet.len(),
-            places.as_mut_ptr(),
-            places.len(),
+            sizes.as_mut_ptr(),
+            sizes.len(),
             &mut tracks,
             &mut definite,
             &mut free,
@@ -123,7 +123,7 @@ pub fn read_sheet(
     tracks: &mut [TrackRow],
     items: &mut [ItemRow],
 ) -> Result<SheetRead, Refusal> {
-    let (mut space, mut columns, mut fares, mut place) = ([0; SPACE_NUMBERS], 0, 0, 0);
+    let (mut space, mut track_count, mut item_count, mut place) = ([0; SPACE_NUMBERS], 0, 0, 0);
     let number = unsafe {
         c::torrivask_read_sheet(
             sheet.as_ptr(),
@@ -133,15 +133,15 @@ pub fn read_sheet(
             tracks.len(),
             items.as_mut_ptr(),
             items.len(),
-            &mut columns,
-            &mut fares,
+            &mut track_count,
+            &mut item_count,
             &mut place,
         )
     };
     let answer = SheetRead {
         space,
-        tracks: columns,
-        items: fares,
+        tracks: track_count,
+        items: item_count,
     };
     told(number, place, answer)
 }
@@ -320,14 +320,14 @@ pub fn stretch_auto_tracks(
 
 /// The functions as the header declares them, for whoever looks at what they leave: a list is a pointer and its length.
 pub mod c {
-    use super::{FloatTrack, ItemRow, Place, SpaceRow, TrackRow};
+    use super::{FloatTrack, ItemRow, Sizes, SpaceRow, TrackRow};
 
     #[link(name = "torrivask", kind = "static")]
     extern "C" {
         pub fn torrivask_board(
             sheet: *const u8,
             sheet_length: usize,
-            places: *mut Place,
+            sizes: *mut Sizes,
             place_count: usize,
             tracks: *mut u32,
             definite: *mut bool,
@@ -357,8 +357,8 @@ pub mod c {
             track_rows: usize,
             items: *mut ItemRow,
             item_rows: usize,
-            columns: *mut u32,
-            fares: *mut u32,
+            track_count: *mut u32,
+            item_count: *mut u32,
             place: *mut u64,
         ) -> u32;
         pub fn torrivask_write_sheet(

@@ -88,8 +88,8 @@ const BOARD_REFUSALS: &[&str] = &[
 /// What a board was made of.
 const BOARDS: &[&str] = &[
     "board",
-    "as many places as tracks",
-    "places past the tracks",
+    "as many sizes as tracks",
+    "sizes past the tracks",
     "definite",
     "definite, inner size given",
     "definite, inner size absent",

@@ -184,19 +184,19 @@ fn time(input: &Input, part: Range<usize>, side: Side, times: u32) -> Duration {
 
 /// A part of an input's calls, one after another, so many times.
 fn run(input: &Input, part: Range<usize>, side: Side, times: u32) {
-    let mut places = [[0; 2]; 256];
+    let mut sizes = [[0; 2]; 256];
     let mut gains = [0; 256];
     for _ in 0..times {
         match (input, side) {
             (Input::Boards(sheets), Side::Rattle) => {
                 for sheet in &sheets[part.clone()] {
-                    let told = torrivask::board(black_box(sheet), black_box(&mut places));
+                    let told = torrivask::board(black_box(sheet), black_box(&mut sizes));
                     let _ = black_box(told);
                 }
             }
             (Input::Boards(sheets), Side::Rust) => {
                 for sheet in &sheets[part.clone()] {
-                    let told = dots::board::board(black_box(sheet), black_box(&mut places));
+                    let told = dots::board::board(black_box(sheet), black_box(&mut sizes));
                     let _ = black_box(told);
                 }
             }
@@ -229,13 +229,13 @@ fn assert_same(input: &Input) {
     match input {
         Input::Boards(sheets) => {
             for sheet in sheets {
-                let (mut rattle_places, mut rust_places) = ([[7; 2]; 256], [[7; 2]; 256]);
-                let rattle = torrivask::board(sheet, &mut rattle_places);
-                let rust = dots::board::board(sheet, &mut rust_places);
+                let (mut rattle_sizes, mut rust_sizes) = ([[7; 2]; 256], [[7; 2]; 256]);
+                let rattle = torrivask::board(sheet, &mut rattle_sizes);
+                let rust = dots::board::board(sheet, &mut rust_sizes);
                 let rattle = rattle.map(|b| (b.tracks as usize, b.free, b.rounds));
                 let rust = rust.map(|b| (b.tracks, b.free, b.rounds));
                 assert_eq!(rattle.map_err(pair), rust.map_err(rust_pair));
-                assert_eq!(rattle_places, rust_places);
+                assert_eq!(rattle_sizes, rust_sizes);
             }
         }
         Input::Fills(fills) => {

@@ -1,6 +1,6 @@
 //! The five calls, each with all that is lent to it.
 use crate::lent::{Lent, Memory};
-use dots::board::Place;
+use dots::board::Sizes;
 use dots::sheet::{ItemRow, SpaceRow, TrackRow};
 
 /// In the order of the header's functions.
@@ -17,7 +17,7 @@ pub const NAMES: [&str; 5] = [
 pub enum Call {
     Board {
         sheet: Lent<u8>,
-        places: Lent<Place>,
+        sizes: Lent<Sizes>,
         tracks: Lent<u32>,
         definite: Lent<u8>,
         free: Lent<i32>,
@@ -39,8 +39,8 @@ pub enum Call {
         space: Lent<SpaceRow>,
         tracks: Lent<TrackRow>,
         items: Lent<ItemRow>,
-        columns: Lent<u32>,
-        fares: Lent<u32>,
+        track_count: Lent<u32>,
+        item_count: Lent<u32>,
         place: Lent<u64>,
     },
     Write {
@@ -74,7 +74,7 @@ impl Call {
         match self {
             Call::Board {
                 sheet,
-                places,
+                sizes,
                 tracks,
                 definite,
                 free,
@@ -82,7 +82,7 @@ impl Call {
                 place,
             } => vec![
                 ("sheet", sheet),
-                ("places", places),
+                ("sizes", sizes),
                 ("tracks", tracks),
                 ("definite", definite),
                 ("free", free),
@@ -112,16 +112,16 @@ impl Call {
                 space,
                 tracks,
                 items,
-                columns,
-                fares,
+                track_count,
+                item_count,
                 place,
             } => vec![
                 ("sheet", sheet),
                 ("space", space),
                 ("tracks", tracks),
                 ("items", items),
-                ("columns", columns),
-                ("fares", fares),
+                ("track_count", track_count),
+                ("item_count", item_count),
                 ("place", place),
             ],
             Call::Write {

@@ -1,9 +1,9 @@
 //! Refusals 6 to 11, by number and then by record: space is record 0, track t is 1 + t, item i is 1 + tracks + i.
 use crate::kinds::{Constraint, Item, Maximum, Minimum, Refusal, Sheet, Space, Track};
 
-/// Whether a board can be made of the sheet in so many lent places.
-pub fn check(sheet: &Sheet, places: usize) -> Result<(), Refusal> {
-    if places < sheet.tracks.len() {
+/// Whether a board can be made of the sheet in so many lent sizes.
+pub fn check(sheet: &Sheet, sizes: usize) -> Result<(), Refusal> {
+    if sizes < sheet.tracks.len() {
         return Err(Refusal::at(6, 0));
     }
     refuse(7, record_over_limit(sheet))?;

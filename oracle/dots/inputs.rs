@@ -43,14 +43,14 @@ fn board_call(random: &mut Random) -> Call {
     for _ in 0..faults {
         spoil_sheet(random, &mut sheet);
     }
-    let mut places = sheet.tracks.len() + random.pick(&[0, 0, 0, 1, 7]);
+    let mut sizes = sheet.tracks.len() + random.pick(&[0, 0, 0, 1, 7]);
     if fate == 59 || (faults > 0 && random.percent(5)) {
-        places = random.pick(&[0, sheet.tracks.len().saturating_sub(1)]);
+        sizes = random.pick(&[0, sheet.tracks.len().saturating_sub(1)]);
     }
     let bytes = sheet_bytes(random, &sheet, fate >= 80);
     Call::Board {
         sheet: Lent::of(random, &bytes),
-        places: Lent::blank(random, places),
+        sizes: Lent::blank(random, sizes),
         tracks: blank(random),
         definite: marks(random, 1, 50),
         free: blank(random),
@@ -74,8 +74,8 @@ fn read_call(random: &mut Random) -> Call {
         space: blank(random),
         tracks: Lent::blank(random, tracks),
         items: Lent::blank(random, items),
-        columns: blank(random),
-        fares: blank(random),
+        track_count: blank(random),
+        item_count: blank(random),
         place: blank(random),
     }
 }

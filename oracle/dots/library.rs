@@ -12,7 +12,7 @@ pub fn library(call: &mut Call) -> u32 {
         match call {
             Call::Board {
                 sheet,
-                places,
+                sizes,
                 tracks,
                 definite,
                 free,
@@ -21,8 +21,8 @@ pub fn library(call: &mut Call) -> u32 {
             } => torrivask_board(
                 sheet.pointer(),
                 sheet.len(),
-                places.pointer(),
-                places.len(),
+                sizes.pointer(),
+                sizes.len(),
                 tracks.pointer(),
                 definite.pointer().cast(),
                 free.pointer(),
@@ -57,8 +57,8 @@ pub fn library(call: &mut Call) -> u32 {
                 space,
                 tracks,
                 items,
-                columns,
-                fares,
+                track_count,
+                item_count,
                 place,
             } => torrivask_read_sheet(
                 sheet.pointer(),
@@ -68,8 +68,8 @@ pub fn library(call: &mut Call) -> u32 {
                 tracks.len(),
                 items.pointer(),
                 items.len(),
-                columns.pointer(),
-                fares.pointer(),
+                track_count.pointer(),
+                item_count.pointer(),
                 place.pointer(),
             ),
             Call::Write {

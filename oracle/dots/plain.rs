@@ -4,7 +4,7 @@ use crate::counters::Counters;
 use crate::lent::Lent;
 use crate::reached;
 use crate::watcher::Watcher;
-use dots::board::{board, board_watched, Board, Place};
+use dots::board::{board, board_watched, Board, Sizes};
 use dots::fill::fill;
 use dots::kinds::Refusal;
 use dots::sheet;
@@ -14,15 +14,15 @@ pub fn plain(call: &mut Call, counters: &mut Counters) -> u32 {
     match call {
         Call::Board {
             sheet,
-            places,
+            sizes,
             tracks,
             definite,
             free,
             rounds,
             place,
         } => {
-            let told = watched(sheet.values(), places.values_mut(), counters);
-            reached::by_board(counters, sheet.values(), places.values(), told);
+            let told = watched(sheet.values(), sizes.values_mut(), counters);
+            reached::by_board(counters, sheet.values(), sizes.values(), told);
             answered(told, place, |board| {
                 tracks.set(board.tracks as u32);
                 definite.set(u8::from(board.free.is_some()));
@@ -64,8 +64,8 @@ pub fn plain(call: &mut Call, counters: &mut Counters) -> u32 {
             space,
             tracks,
             items,
-            columns,
-            fares,
+            track_count,
+            item_count,
             place,
         } => {
             let lent = [tracks.len(), items.len()];
@@ -73,8 +73,8 @@ pub fn plain(call: &mut Call, counters: &mut Counters) -> u32 {
             reached::by_read(counters, sheet.values(), lent, told);
             answered(told, place, |(its_space, its_tracks, its_items)| {
                 space.set(sheet::space_row(&its_space));
-                columns.set(its_tracks as u32);
-                fares.set(its_items as u32);
+                track_count.set(its_tracks as u32);
+                item_count.set(its_items as u32);
             })
         }
         Call::Write {
@@ -116,9 +116,9 @@ fn marks_of(bytes: &Lent<u8>) -> Vec<bool> {
     bytes.values().iter().map(|byte| *byte == 1).collect()
 }
 
-fn watched(bytes: &[u8], places: &mut [Place], counters: &mut Counters) -> Result<Board, Refusal> {
+fn watched(bytes: &[u8], sizes: &mut [Sizes], counters: &mut Counters) -> Result<Board, Refusal> {
     match sheet::read(bytes) {
-        Ok(sheet) => board_watched(bytes, places, &mut Watcher::new(counters, sheet.space)),
-        Err(_) => board(bytes, places),
+        Ok(sheet) => board_watched(bytes, sizes, &mut Watcher::new(counters, sheet.space)),
+        Err(_) => board(bytes, sizes),
     }
 }

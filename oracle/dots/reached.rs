@@ -1,6 +1,6 @@
 //! What a call of the plain Rust has reached, by the names in aims.rs.
 use crate::counters::Counters;
-use dots::board::{Board, Place};
+use dots::board::{Board, Sizes};
 use dots::fill::Filled;
 use dots::kinds::{Constraint, Item, Maximum, Minimum, Refusal, Sheet, Space, Track};
 use dots::sheet::{self, ItemRow, SpaceRow, TrackRow};
@@ -36,13 +36,13 @@ fn by_bytes(counters: &mut Counters, bytes: &[u8], refusal: Refusal) {
 pub fn by_board(
     counters: &mut Counters,
     bytes: &[u8],
-    places: &[Place],
+    sizes: &[Sizes],
     told: Result<Board, Refusal>,
 ) {
     match told {
         Ok(board) => {
             let sheet = sheet::read(bytes).expect("a sheet that made a board");
-            by_answer(counters, &sheet, &board, places);
+            by_answer(counters, &sheet, &board, sizes);
         }
         Err(refusal) if refusal.number <= 5 => by_bytes(counters, bytes, refusal),
         Err(refusal) if refusal.number == 7 => counters.reach(match refusal.place {
@@ -75,12 +75,12 @@ pub fn maximum_number(maximum: Maximum) -> u32 {
 }
 
 /// What a board was made of, and its answer.
-fn by_answer(counters: &mut Counters, sheet: &Sheet, board: &Board, places: &[Place]) {
+fn by_answer(counters: &mut Counters, sheet: &Sheet, board: &Board, sizes: &[Sizes]) {
     counters.reach("board");
-    counters.reach(if places.len() == board.tracks {
-        "as many places as tracks"
+    counters.reach(if sizes.len() == board.tracks {
+        "as many sizes as tracks"
     } else {
-        "places past the tracks"
+        "sizes past the tracks"
     });
     count_space(counters, &sheet.space);
     for track in &sheet.tracks {
@@ -110,7 +110,7 @@ fn by_answer(counters: &mut Counters, sheet: &Sheet, board: &Board, places: &[Pl
         2 => counters.reach("5: 2 rounds"),
         _ => counters.reach("5: more rounds"),
     }
-    let is_below = places[..board.tracks]
+    let is_below = sizes[..board.tracks]
         .iter()
         .any(|[base, limit]| limit < base);
     counters.reach_if(is_below, "a limit below its base");

@@ -1,6 +1,6 @@
 //! Replays the cases of the fill, the sheet and the board, and holds every answer and all lent memory to what the case says. The
 //! headers of oracle/fill_cases.py, sheet_cases.py and board_cases.py tell the form of a case.
-use dots::board::{board, Place};
+use dots::board::{board, Sizes};
 use dots::fill::fill;
 use dots::kinds::Refusal;
 use dots::sheet::{self, ItemRow, TrackRow};
@@ -88,15 +88,15 @@ fn write_agrees(case: &mut Case) -> bool {
 
 fn board_agrees(case: &mut Case) -> bool {
     let bytes = case.bytes();
-    let mut places: Vec<Place> = case.rows();
+    let mut sizes: Vec<Sizes> = case.rows();
     let answer = case.answer();
     let free = match case.row() {
         [0, _, _] => None,
         [_, 0, dots] => Some(i64::from(dots)),
         [_, _, dots] => Some(-i64::from(dots)),
     };
-    let places_after: Vec<Place> = case.rows();
-    let same_answer = match (board(&bytes, &mut places), answer) {
+    let sizes_after: Vec<Sizes> = case.rows();
+    let same_answer = match (board(&bytes, &mut sizes), answer) {
         (Ok(told), Ok([tracks, rounds])) => {
             told.tracks == tracks
                 && told.rounds as usize == rounds
@@ -105,7 +105,7 @@ fn board_agrees(case: &mut Case) -> bool {
         (Err(told), Err(answer)) => told == answer,
         _ => false,
     };
-    same_answer && places == places_after
+    same_answer && sizes == sizes_after
 }
 
 /// The lines of a case that are still to be read.

@@ -8,6 +8,6 @@ use Rattle.sheet.specs.Rule.{longest}
 use Rattle.sheet.proofs.Front.{decided-by-front}
 use Rattle.board.specs.Rule.{boardCall}
 
-pub board-of-front : (bytes : List ℕ) (places : List Row) → boardCall (take (longest + 1) bytes) places ≡ boardCall bytes places
+pub board-of-front : (bytes : List ℕ) (sizes : List Row) → boardCall (take (longest + 1) bytes) sizes ≡ boardCall bytes sizes
 unfolding boardCall
-board-of-front bytes places = decided-by-front bytes (λ (b : List ℕ). boardCall b places) (λ b c number place e f. rw (e, f))
+board-of-front bytes sizes = decided-by-front bytes (λ (b : List ℕ). boardCall b sizes) (λ b c number place e f. rw (e, f))

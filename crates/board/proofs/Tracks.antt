@@ -26,30 +26,30 @@ TracksFew (board tracks free rounds) = tracks ≤ mostTracks
 TracksFew (refused number place) = Unit {0}
 
 -- a layout tells as many tracks as it was handed
-module _ (s : Space) (ts : List SheetTrack) (is : List Item) (places : List Row) (few : length ts ≤ mostTracks) where
-  layout-as-few : (f : Fault) → TracksFew (layoutAs f s ts is places .told)
+module _ (s : Space) (ts : List SheetTrack) (is : List Item) (sizes : List Row) (few : length ts ≤ mostTracks) where
+  layout-as-few : (f : Fault) → TracksFew (layoutAs f s ts is sizes .told)
   layout-as-few fine = rw (length-size (s .constraint) (expansion s) (s .stretch) (map resolved ts) is, length-map ts resolved) few
   layout-as-few (fault number place) = tt
 
-  layout-few : TracksFew (layoutCall s ts is places .told)
+  layout-few : TracksFew (layoutCall s ts is sizes .told)
   unfolding layoutCall
-  layout-few = layout-as-few (layoutFault s ts is places)
+  layout-few = layout-as-few (layoutFault s ts is sizes)
 
-module _ (bytes : List ℕ) (places : List Row) where
+module _ (bytes : List ℕ) (sizes : List Row) where
   sheet-few : sheetFault bytes ≡ fine → length (map sheetTrackOf (sheetAt bytes .tracks)) ≤ mostTracks
   unfolding sheetFrom
   sheet-few e = rw (length-map (sheetAt bytes .tracks) sheetTrackOf, length-rowsAt trackRecord bytes (twoAt bytes tracksAt) (tracksAt + 2)) (accepted bytes e .from .fewTracks)
 
-  told-few : (f : Fault) → sheetFault bytes ≡ f → TracksFew (boardAs f (sheetAt bytes) places .told)
-  told-few fine e = layout-few (spaceOf (sheetAt bytes .space)) (map sheetTrackOf (sheetAt bytes .tracks)) (map itemOf (sheetAt bytes .items)) places (sheet-few e)
+  told-few : (f : Fault) → sheetFault bytes ≡ f → TracksFew (boardAs f (sheetAt bytes) sizes .told)
+  told-few fine e = layout-few (spaceOf (sheetAt bytes .space)) (map sheetTrackOf (sheetAt bytes .tracks)) (map itemOf (sheetAt bytes .items)) sizes (sheet-few e)
   told-few (fault number place) e = tt
 
-  call-few : TracksFew (boardCall bytes places .told)
+  call-few : TracksFew (boardCall bytes sizes .told)
   unfolding boardCall
   call-few = told-few (sheetFault bytes) refl
 
   -- so does an answer that keeps the promise
   pub tracks-few : (a : BoardAnswer) (left : List Row) (tracks : ℕ) (free : Free) (rounds : ℕ)
-      → boardLeaves a left ≡ boardCall bytes places → a ≡ answer.Board tracks free rounds → tracks ≤ mostTracks
+      → boardLeaves a left ≡ boardCall bytes sizes → a ≡ answer.Board tracks free rounds → tracks ≤ mostTracks
   tracks-few a left tracks free rounds e is =
       subst TracksFew (sym (ap (λ (o : BoardOutcome). o .told) e) ∙ ap boardTold is) call-few

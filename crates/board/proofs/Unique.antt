@@ -13,7 +13,7 @@ use Rattle.sizing.specs.declared.free.Free.the-variants as free
 use Rattle.board.specs.Rule.{BoardTold, board, refused}
 use Rattle.board.specs.Answer.{numberOf, placeOf, boardTold, own, ownAnswer}
 use Rattle.board.specs.declared.refusal.Refusal.{Refusal}
-use Rattle.layout.specs.declared.refusal.Refusal.the-variants.{TooFewPlaces, Record}
+use Rattle.layout.specs.declared.refusal.Refusal.the-variants.{LentTooShort, Record}
 use Rattle.board.specs.declared.refusal.Refusal.the-variants.{Sheet, Layout}
 use Rattle.board.specs.declared.BoardAnswer.{BoardAnswer}
 use Rattle.board.specs.declared.BoardAnswer.the-variants as answer
@@ -27,7 +27,7 @@ refusalOf number place =
     (cond (eqb number 3) (Sheet (sheet.Count place))
     (cond (eqb number 4) (Sheet (sheet.Tag place))
     (cond (eqb number 5) (Sheet (sheet.StrayNumber place))
-    (cond (eqb number 6) (Layout TooFewPlaces)
+    (cond (eqb number 6) (Layout LentTooShort)
     (cond (eqb number 7) (Layout (Record (checks.NumberOver place)))
     (cond (eqb number 8) (Layout (Record (checks.OutsideTracks place)))
     (cond (eqb number 9) (Layout (Record (checks.ContributionMissing place)))
@@ -40,8 +40,8 @@ refusal-again (Sheet (sheet.BytesOver place)) = refl
 refusal-again (Sheet (sheet.Count place)) = refl
 refusal-again (Sheet (sheet.Tag place)) = refl
 refusal-again (Sheet (sheet.StrayNumber place)) = refl
-refusal-again (Sheet sheet.TooFewPlaces) = refl
-refusal-again (Layout TooFewPlaces) = refl
+refusal-again (Sheet sheet.LentTooShort) = refl
+refusal-again (Layout LentTooShort) = refl
 refusal-again (Layout (Record (checks.NumberOver place))) = refl
 refusal-again (Layout (Record (checks.OutsideTracks place))) = refl
 refusal-again (Layout (Record (checks.ContributionMissing place))) = refl

@@ -7,7 +7,7 @@ use Rattle.records.specs.Answer as records
 use Rattle.records.specs.declared.refusal.Refusal.the-variants as refusals
 use Rattle.sizing.specs.Size.{freeTold}
 use Rattle.layout.specs.Answer as layout
-use Rattle.layout.specs.declared.refusal.Refusal.the-variants.{TooFewPlaces}
+use Rattle.layout.specs.declared.refusal.Refusal.the-variants.{LentTooShort}
 use Rattle.board.specs.Rule.{BoardTold, board, refused, BoardOutcome, boardOutcome}
 use Rattle.board.specs.declared.refusal.Refusal.{Refusal}
 use Rattle.board.specs.declared.refusal.Refusal.the-variants.{Sheet, Layout}
@@ -27,7 +27,7 @@ boardTold (answer.Board tracks free rounds) = board tracks (freeTold free) round
 boardTold (answer.Refused refusal) = refused (numberOf refusal) (placeOf refusal)
 
 abbrev pub boardLeaves : BoardAnswer → List Row → BoardOutcome
-boardLeaves answer places = boardOutcome (boardTold answer) places
+boardLeaves answer sizes = boardOutcome (boardTold answer) sizes
 
 -- ---- 6 has one name: a board lends its own rows, so a sheet never finds too few
 
@@ -37,7 +37,7 @@ own (Sheet (refusals.BytesOver place)) = Sheet (refusals.BytesOver place)
 own (Sheet (refusals.Count place)) = Sheet (refusals.Count place)
 own (Sheet (refusals.Tag place)) = Sheet (refusals.Tag place)
 own (Sheet (refusals.StrayNumber place)) = Sheet (refusals.StrayNumber place)
-own (Sheet refusals.TooFewPlaces) = Layout TooFewPlaces
+own (Sheet refusals.LentTooShort) = Layout LentTooShort
 own (Layout refusal) = Layout refusal
 
 abbrev pub ownAnswer : BoardAnswer → BoardAnswer

@@ -1,4 +1,4 @@
--- The board: a sheet's bytes and lent places in, sizes or a refusal out. The order of refusals is the build paper's table: 1 to 5 of
+-- The board: a sheet's bytes and lent sizes in, sizes or a refusal out. The order of refusals is the build paper's table: 1 to 5 of
 -- the sheet, and of what it says the layout. Both have their own pages. It assumes nothing of the code and it computes.
 use Prim.Native.Nat.{ℕ}
 use mathlib.Core.List.{List, map}
@@ -10,12 +10,12 @@ pub use Rattle.layout.specs.Rule.{BoardTold, board, refused, BoardOutcome, boar
 
 -- what a sheet says, laid out: 6, then 7 to 11, then the sizes
 abbrev pub sheetLayout : Sheet → List Row → BoardOutcome
-sheetLayout sheet places = layoutCall (spaceOf (sheet .space)) (map sheetTrackOf (sheet .tracks)) (map itemOf (sheet .items)) places
+sheetLayout sheet sizes = layoutCall (spaceOf (sheet .space)) (map sheetTrackOf (sheet .tracks)) (map itemOf (sheet .items)) sizes
 
 -- 1 to 5 come before it
 abbrev pub boardAs : Fault → Sheet → List Row → BoardOutcome
-boardAs fine sheet places = sheetLayout sheet places
-boardAs (fault number place) sheet places = boardOutcome (refused number place) places
+boardAs fine sheet sizes = sheetLayout sheet sizes
+boardAs (fault number place) sheet sizes = boardOutcome (refused number place) sizes
 
 unfoldable pub boardCall : List ℕ → List Row → BoardOutcome
-boardCall bytes places = boardAs (sheetFault bytes) (sheetAt bytes) places
+boardCall bytes sizes = boardAs (sheetFault bytes) (sheetAt bytes) sizes

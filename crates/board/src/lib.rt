@@ -1,21 +1,22 @@
-// The board: a sheet's bytes and lent places in, sizes or a refusal out (specs/Rule.antt is the rule, docs/PROMISES.md the promise
-// in words). A sheet is read, and what it says is laid out.
+// The board: a sheet's bytes and lent sizes in, sizes or a refusal out (specs/Rule.antt is the rule, docs/PROMISES.md the promise
+// in words). A sheet is read, and what it says is laid out. All memory that this takes is chosen here, once, and lent to what is below.
 mod refusal;
 
+use chains::BATCHES;
 use kinds::Item;
 use kinds::Track;
 use layout::LayoutAnswer;
 use layout::lay_out;
 pub use refusal::Refusal;
 use sheet::ReadAnswer;
+use sheet::says_few;
 pub use sizing::Free;
 ghost use mathlib.Core.Path.{_≡_};
-ghost use Prim.Native.Nat.{_≤_};
-ghost use lib.ListN.{length};
+ghost use mathlib.Core.Bool.{true};
 ghost use Rattle.layout.specs.Answer.{layoutTold};
-ghost use Rattle.sheet.specs.Rule.{sheetFault, readFault};
+ghost use Rattle.sheet.specs.Few.{saysFew};
 ghost use Rattle.board.specs.Rule.{boardCall};
-ghost use Rattle.board.specs.Store.{fewBytes};
+ghost use Rattle.board.specs.Store.{few, Store};
 ghost use Rattle.board.specs.Answer.{boardTold, boardLeaves, ownAnswer};
 
 pub enum BoardAnswer {
@@ -27,63 +28,127 @@ pub enum BoardAnswer {
     Refused(Refusal),
 }
 
-// A small store, which is cleared sooner.
-const FEW_TRACKS: usize = 128;
+// So many tracks, or items, at most work in a small store, which is cleared sooner.
+const FEW: usize = 64;
 
-const FEW_ITEMS: usize = 64;
+// A total before each track and one behind the last.
+const FEW_TOTALS: usize = FEW + 1;
 
-// So few bytes never say more: a track's record is more than half an item's.
-const FEW_BYTES: usize = sheet::EMPTY + FEW_ITEMS * rows::ITEM_SIZE;
+const TOTALS: usize = Track::MOST + 1;
 
-// Sizes a sheet. Base and limit of track t stand in place t; places past the tracks, and all of them after a refusal, keep what
-// they hold.
-pub fn board(bytes: &[u8], places: &mut [[u32; 2]]) -> BoardAnswer
-    ensures { λ r. ⌜ (boardLeaves r (now (places .exit)) ≡ boardCall (now (bytes .entry)) (now (places .entry))) × (ownAnswer r ≡ r) ⌝ }
+// Sizes a sheet. Base and limit of track t become `sizes[t]`; those past the tracks, and all of them after a refusal, keep what they
+// hold.
+pub fn board(bytes: &[u8], sizes: &mut [[u32; 2]]) -> BoardAnswer
+    ensures { λ r. ⌜ (boardLeaves r (now (sizes .exit)) ≡ boardCall (now (bytes .entry)) (now (sizes .entry))) × (ownAnswer r ≡ r) ⌝ }
 {
-    if bytes.len() <= FEW_BYTES {
-        return board_small(bytes, places);
+    if says_few(bytes, FEW, FEW) {
+        return board_small(bytes, sizes);
     }
-    board_large(bytes, places)
+    board_large(bytes, sizes)
 }
 
-// In a store for the records that few bytes say.
-fn board_small(bytes: &[u8], places: &mut [[u32; 2]]) -> BoardAnswer
-    requires { ⌜ length (now bytes) ≤ fewBytes ⌝ }
-    ensures { λ r. ⌜ (boardLeaves r (now (places .exit)) ≡ boardCall (now (bytes .entry)) (now (places .entry))) × (ownAnswer r ≡ r) ⌝ }
+// In a store for few tracks and items.
+fn board_small(bytes: &[u8], sizes: &mut [[u32; 2]]) -> BoardAnswer
+    requires { ⌜ saysFew (now bytes) few few ≡ true ⌝ }
+    ensures { λ r. ⌜ (boardLeaves r (now (sizes .exit)) ≡ boardCall (now (bytes .entry)) (now (sizes .entry))) × (ownAnswer r ≡ r) ⌝ }
 {
-    let mut tracks = [[0u32; 4]; FEW_TRACKS];
-    let mut items = [[0u32; 7]; FEW_ITEMS];
-    board_with(bytes, &mut tracks, &mut items, places)
+    let mut tracks = [[0u32; 4]; FEW];
+    let mut items = [[0u32; 7]; FEW];
+    let mut heads = [0usize; BATCHES];
+    let mut nexts = [0usize; FEW];
+    let mut lines = [[0u32; 8]; FEW];
+    let mut increases = [0u32; FEW];
+    let mut gains = [0u32; FEW];
+    let mut rests = [0u32; FEW];
+    let mut sums = [[0u64; 2]; FEW_TOTALS];
+    let mut held = [false; FEW];
+    board_with(
+        bytes,
+        &mut tracks,
+        &mut items,
+        &mut heads,
+        &mut nexts,
+        &mut lines,
+        &mut increases,
+        &mut gains,
+        &mut rests,
+        &mut sums,
+        &mut held,
+        sizes,
+    )
 }
 
-// In a store for the records of any sheet.
-fn board_large(bytes: &[u8], places: &mut [[u32; 2]]) -> BoardAnswer
-    ensures { λ r. ⌜ (boardLeaves r (now (places .exit)) ≡ boardCall (now (bytes .entry)) (now (places .entry))) × (ownAnswer r ≡ r) ⌝ }
+// In a store for the tracks and items of any sheet.
+fn board_large(bytes: &[u8], sizes: &mut [[u32; 2]]) -> BoardAnswer
+    ensures { λ r. ⌜ (boardLeaves r (now (sizes .exit)) ≡ boardCall (now (bytes .entry)) (now (sizes .entry))) × (ownAnswer r ≡ r) ⌝ }
 {
     let mut tracks = [[0u32; 4]; Track::MOST];
     let mut items = [[0u32; 7]; Item::MOST];
-    board_with(bytes, &mut tracks, &mut items, places)
+    let mut heads = [0usize; BATCHES];
+    let mut nexts = [0usize; Item::MOST];
+    let mut lines = [[0u32; 8]; Track::MOST];
+    let mut increases = [0u32; Track::MOST];
+    let mut gains = [0u32; Track::MOST];
+    let mut rests = [0u32; Track::MOST];
+    let mut sums = [[0u64; 2]; TOTALS];
+    let mut held = [false; Track::MOST];
+    board_with(
+        bytes,
+        &mut tracks,
+        &mut items,
+        &mut heads,
+        &mut nexts,
+        &mut lines,
+        &mut increases,
+        &mut gains,
+        &mut rests,
+        &mut sums,
+        &mut held,
+        sizes,
+    )
 }
 
-// With so many rows that reading never finds too few.
+// In the store that is lent, of which the layout gets as much as the sheet has tracks and items.
 fn board_with(
     bytes: &[u8],
     tracks: &mut [[u32; 4]],
     items: &mut [[u32; 7]],
-    places: &mut [[u32; 2]],
+    heads: &mut [usize],
+    nexts: &mut [usize],
+    lines: &mut [[u32; 8]],
+    increases: &mut [u32],
+    gains: &mut [u32],
+    rests: &mut [u32],
+    sums: &mut [[u64; 2]],
+    held: &mut [bool],
+    sizes: &mut [[u32; 2]],
 ) -> BoardAnswer
-    requires { ⌜ readFault (now bytes) (now tracks) (now items) ≡ sheetFault (now bytes) ⌝ }
-    ensures { λ r. ⌜ (boardLeaves r (now (places .exit)) ≡ boardCall (now (bytes .entry)) (now (places .entry))) × (ownAnswer r ≡ r) ⌝ }
+    requires { ⌜ Store (now bytes) (now tracks) (now items) (now heads) (now nexts) (now lines) (now increases) (now gains) (now rests) (now sums) (now held) ⌝ }
+    ensures { λ r. ⌜ (boardLeaves r (now (sizes .exit)) ≡ boardCall (now (bytes .entry)) (now (sizes .entry))) × (ownAnswer r ≡ r) ⌝ }
 {
     let read = sheet::read(bytes, tracks, items);
     match read {
         ReadAnswer::Refused(refusal) => BoardAnswer::Refused(Refusal::Sheet(refusal)),
         ReadAnswer::Sheet {
             space,
-            tracks: track_count,
-            items: item_count,
+            tracks: n,
+            items: m,
         } => {
-            let laid_out = lay_out(space, &tracks[..track_count], &items[..item_count], places);
+            let totals = n + 1;
+            let laid_out = lay_out(
+                space,
+                &tracks[..n],
+                &items[..m],
+                heads,
+                &mut nexts[..m],
+                &mut lines[..n],
+                &mut increases[..n],
+                &mut gains[..n],
+                &mut rests[..n],
+                &mut sums[..totals],
+                &mut held[..n],
+                sizes,
+            );
             of_layout(laid_out)
         }
     }

@@ -26,5 +26,5 @@ module _ (t : Told) (a : BoardAnswer) where
     told-with-free d f h g = rw (e, f, r, p, q, h, g)
 
 -- what a call leaves, part by part
-pub left-as : (t : Told) (a : BoardAnswer) (places after : List (List ℕ)) → boardTold a ≡ toldAs t → places ≡ after → leftAs t after ≡ boardLeaves a places
-left-as t a places after p q = rw (← p, ← q)
+pub left-as : (t : Told) (a : BoardAnswer) (sizes after : List (List ℕ)) → boardTold a ≡ toldAs t → sizes ≡ after → leftAs t after ≡ boardLeaves a sizes
+left-as t a sizes after p q = rw (← p, ← q)

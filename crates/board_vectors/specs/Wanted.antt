@@ -1,4 +1,4 @@
--- What a case wants: the answer in the words of the board's rule, and the places behind it. Assumes nothing.
+-- What a case wants: the answer in the words of the board's rule, and the sizes behind it. Assumes nothing.
 use Prim.Native.Nat.{ℕ}
 use mathlib.Core.Bool.{Bool, true, false}
 use mathlib.Core.List.{List}
@@ -24,4 +24,4 @@ abbrev pub toldAs : Told → BoardTold
 toldAs t = answerAs (t .wanted .«is_refusal») (t .wanted .first) (t .wanted .second) (freeAs (t .«has_free») (signed (t .«is_short») (t .dots)))
 
 abbrev pub leftAs : Told → List (List ℕ) → BoardOutcome
-leftAs t places = record { told = toldAs t; places = places }
+leftAs t sizes = record { told = toldAs t; sizes = sizes }

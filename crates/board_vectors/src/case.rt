@@ -1,11 +1,11 @@
-// One case: its sheet and its places are read into arrays that are lent to the board, and what the board leaves is compared with
+// One case: its sheet and its sizes are read into arrays that are lent to the board, and what the board leaves is compared with
 // what the case wants. Where the text has a fault the call is made on what was read, and the caller looks at the fault alone.
 ghost use Prim.Native.Nat.{_≤_};
 ghost use lib.ListN.{length};
 ghost use Rattle.texts.specs.Reading.{Onward};
 use crate::compare::Told;
 use crate::compare::is_given;
-use crate::places::read_places;
+use crate::sizes::read_sizes;
 use cases::Checked;
 use cases::Cursor;
 use cases::read_bytes;
@@ -47,12 +47,12 @@ pub fn check_case(text: &[u8], from: Cursor) -> Checked
     ensures { λ r. ⌜ Onward (now (text .entry)) (from .at) (r .next .at) ⌝ }
 {
     let mut bytes = [0u8; MOST_BYTES];
-    let mut places = [[0u32; 2]; MOST_PLACES];
+    let mut sizes = [[0u32; 2]; MOST_PLACES];
     let mut after = [[0u32; 2]; MOST_PLACES];
     let sheet = read_bytes(text, from, &mut bytes);
-    let lent = read_places(text, sheet.next, &mut places);
+    let lent = read_sizes(text, sheet.next, &mut sizes);
     let read = read_told(text, lent.next);
-    let left = read_places(text, read.next, &mut after);
+    let left = read_sizes(text, read.next, &mut after);
     let byte_count = sheet.count;
     let lent_count = lent.count;
     let left_count = left.count;
@@ -60,7 +60,7 @@ pub fn check_case(text: &[u8], from: Cursor) -> Checked
     let agrees = is_given(
         told,
         &bytes[..byte_count],
-        &mut places[..lent_count],
+        &mut sizes[..lent_count],
         &after[..left_count],
     );
     let next = left.next;

@@ -4,7 +4,7 @@ ghost use mathlib.Core.Bool.{true};
 ghost use Rattle.board.specs.Rule.{boardCall};
 ghost use Rattle.board.specs.Answer.{boardTold};
 ghost use Rattle.board_vectors.specs.Wanted.{signed, toldAs, leftAs};
-use crate::places::same_places;
+use crate::sizes::same_sizes;
 use board::BoardAnswer;
 use board::Free;
 use cases::Wanted;
@@ -70,13 +70,13 @@ fn is_told(told: Told, answer: BoardAnswer) -> bool
     }
 }
 
-// Whether the board tells what is wanted and leaves the places as given after it.
-pub fn is_given(told: Told, bytes: &[u8], places: &mut [[u32; 2]], after: &[[u32; 2]]) -> bool
-    ensures { λ r. ⌜ (r ≡ true → leftAs told (now (after .entry)) ≡ boardCall (now (bytes .entry)) (now (places .entry))) ⌝ }
+// Whether the board tells what is wanted and leaves the sizes as given after it.
+pub fn is_given(told: Told, bytes: &[u8], sizes: &mut [[u32; 2]], after: &[[u32; 2]]) -> bool
+    ensures { λ r. ⌜ (r ≡ true → leftAs told (now (after .entry)) ≡ boardCall (now (bytes .entry)) (now (sizes .entry))) ⌝ }
 {
-    let answer = board::board(bytes, places);
+    let answer = board::board(bytes, sizes);
     if !is_told(told, answer) {
         return false;
     }
-    same_places(places, after)
+    same_sizes(sizes, after)
 }

@@ -2,7 +2,7 @@
 // A file with a fault in it is refused: one line on standard error, and none on standard output.
 mod case;
 mod compare;
-mod places;
+mod sizes;
 
 use cases::Walk;
 

@@ -3,10 +3,11 @@ ghost use mathlib.Core.Path.{_≡_};
 ghost use lib.ListN.{length};
 ghost use Rattle.texts.specs.Reading.{Counted};
 use crate::report::print_fault;
+use input::Read;
 use libc::STDERR_FILENO;
 use texts::Fault;
 
-// More than any file of cases has, so that each can grow.
+// More than any file of cases has, so that each can grow: one that has as many is too long.
 pub const MOST_BYTES: usize = 1048576;
 
 // Zeros, for the text. The `ensures` gives only the length, which lending the array as a slice needs.
@@ -22,22 +23,6 @@ pub struct Loaded {
     pub length: usize,
 }
 
-// Whether the file ends where reading it stopped; else this says why not. io::read_full stops at a
-// read that fails as it does at the end, and so one more byte is asked for.
-fn is_whole(program: &[u8], fd: i32, path: &[u8], length: usize) -> bool {
-    let mut one_more = [0u8; 1];
-    let got = libc::read(fd, &mut one_more);
-    if got < 0 {
-        print_failure(program, path);
-        return false;
-    }
-    if got > 0 {
-        print_fault(program, length, Fault::TooLong);
-        return false;
-    }
-    true
-}
-
 // Why the last call on the file failed.
 fn print_failure(program: &[u8], path: &[u8]) {
     io::write_all(STDERR_FILENO, program);
@@ -45,11 +30,25 @@ fn print_failure(program: &[u8], path: &[u8]) {
     os::fail(path);
 }
 
+// Whether the whole file was read; else this says why not. Bytes that are full may not be all of it.
+fn is_whole(program: &[u8], path: &[u8], read: Read, is_full: bool) -> bool {
+    if read.has_failed {
+        print_failure(program, path);
+        return false;
+    }
+    if read.is_whole & !is_full {
+        return true;
+    }
+    print_fault(program, read.length, Fault::TooLong);
+    false
+}
+
 fn read_file(program: &[u8], fd: i32, path: &[u8], text: &mut [u8]) -> Loaded
     ensures { λ r. ⌜ Counted (r .length) (now (text .exit)) ⌝ }
 {
-    let length = io::read_full(fd, text);
-    let is_whole = is_whole(program, fd, path, length);
+    let read = input::read_from(fd, text);
+    let length = read.length;
+    let is_whole = is_whole(program, path, read, length == text.len());
     Loaded { is_whole, length }
 }
 

@@ -9,10 +9,12 @@ use lib.Dec.{eqb}
 use lib.ListN.{length, getD, take, drop}
 use borrow.Author.Tests.{ne-eqb}
 use Rattle.laws.specs.Lists.{All, keep, some}
-use Rattle.kinds.specs.Kinds.{Row, itemOf, amountNumber, amountAt}
+use Rattle.rounds.specs.Rule.{mostTracks}
+use Rattle.kinds.specs.Kinds.{Row, itemOf, amountNumber, kindIndex, amountAt}
 use Rattle.kinds.specs.declared.amount.Amount.{Amount}
 use Rattle.kinds.specs.declared.amount.Amount.the-variants.{Absent, Given}
 use Rattle.kinds.specs.declared.track.Track.{Track}
+use Rattle.kinds.specs.declared.item.ContributionKind.{ContributionKind}
 use Rattle.kinds.specs.declared.item.ContributionKind.the-variants as kind
 use Rattle.kinds.specs.declared.item.Item.{Item}
 use Rattle.spanned.specs.Rule.{isFr, isMeasured, crossesFr, mostContribution}
@@ -20,10 +22,12 @@ use Rattle.spanned.specs.Sound.{ItemFits}
 use Rattle.lines.specs.declared.measured.Measured.{Measured}
 use Rattle.lines.specs.Rule.{completeOf, complete, measuredItems, onFr, inSpan, inOneTrack}
 use Rattle.lines.specs.Fits.{MeasuredFits, MeasuredFit}
-use Rattle.lines.specs.Chains.{chain, partAt, chained, ChainFits, Whole}
+use Rattle.lines.specs.Parts.{measuredOf}
+use Rattle.lines.specs.Chains.{chain, partAt, chained, ChainFits, Whole, frBatch, batches, BatchesFit}
+use Rattle.lines.proofs.Parted.{lacks, complete-one}
 use Rattle.lines.proofs.Chains.{chain-next, chained-next}
-use Rattle.chains.specs.Batches.{frBatch, batchOf, inBatch, chainItems, Gathered}
-use Rattle.chains.proofs.Numbers.{lacks, numbered, takes-of-gives, gives-of-batch}
+use Rattle.chains.specs.Batches.{batchOf, inBatch, chainItems, Gathered}
+use Rattle.chains.proofs.Numbers.{numbered, gives-of-batch}
 
 -- ---- Lists that are kept, and lists of lists
 
@@ -105,13 +109,13 @@ nothing r false false = refl
 
 -- by its start and span, its amounts and its tests: it is measured, and it is on an fr track
 module _ (ts : List Track) (start span : ℕ) where
-  at-span : (k : ℕ) → 0 < k → k ≤ 256 → (a b c : Amount) (m f : Bool) → some isFr (take span (drop start ts)) ≡ f
+  at-span : (k : ℕ) → 0 < k → k ≤ mostTracks → (a b c : Amount) (m f : Bool) → some isFr (take span (drop start ts)) ≡ f
       → cond (eqb (numbered m (lacks a b c) f span) k) (completeOf start span a b c) [] ≡ keep (inSpan ts k) (cond m (completeOf start span a b c) [])
   unfolding keep
-  at-span k h l (Given x) (Given y) (Given z) true true e = rw (e, ne-eqb 257 k (λ (d : 257 ≡ k). omega arith)) (go (eqb span k))
+  at-span k h l (Given x) (Given y) (Given z) true true e = rw (e, ne-eqb frBatch k (λ (d : frBatch ≡ k). omega arith)) (go (eqb span k))
     where
       one : List Measured
-      one = record { start = start; span = span; minimum = x; «min_content» = y; «max_content» = z } ∷ []
+      one = record { start = start; span = span; row = x ∷ y ∷ z ∷ [] } ∷ []
 
       go : (b : Bool) → [] ≡ cond (b && false) one []
       go true = refl
@@ -119,7 +123,7 @@ module _ (ts : List Track) (start span : ℕ) where
   at-span k h l (Given x) (Given y) (Given z) true false e = rw e (go (eqb span k))
     where
       one : List Measured
-      one = record { start = start; span = span; minimum = x; «min_content» = y; «max_content» = z } ∷ []
+      one = record { start = start; span = span; row = x ∷ y ∷ z ∷ [] } ∷ []
 
       go : (b : Bool) → cond b one [] ≡ cond (b && true) one []
       go true = refl
@@ -129,35 +133,40 @@ module _ (ts : List Track) (start span : ℕ) where
   at-span k h l (Given x) Absent c m f e = nothing (inSpan ts k) (eqb (numbered m true f span) k) m
   at-span k h l Absent b c m f e = nothing (inSpan ts k) (eqb (numbered m true f span) k) m
 
-  at-last : span ≤ 256 → (a b c : Amount) (m f : Bool) → some isFr (take span (drop start ts)) ≡ f
+  at-last : span ≤ mostTracks → (a b c : Amount) (m f : Bool) → some isFr (take span (drop start ts)) ≡ f
       → cond (eqb (numbered m (lacks a b c) f span) frBatch) (completeOf start span a b c) [] ≡ keep (onFr ts) (cond m (completeOf start span a b c) [])
   unfolding keep
   at-last h (Given x) (Given y) (Given z) true true e = rw e refl
-  at-last h (Given x) (Given y) (Given z) true false e = rw (e, ne-eqb span 257 (λ (d : span ≡ 257). omega arith)) refl
+  at-last h (Given x) (Given y) (Given z) true false e = rw (e, ne-eqb span frBatch (λ (d : span ≡ frBatch). omega arith)) refl
   at-last h (Given x) (Given y) (Given z) false f e = refl
   at-last h (Given x) (Given y) Absent m f e = nothing (onFr ts) (eqb (numbered m true f span) frBatch) m
   at-last h (Given x) Absent c m f e = nothing (onFr ts) (eqb (numbered m true f span) frBatch) m
   at-last h Absent b c m f e = nothing (onFr ts) (eqb (numbered m true f span) frBatch) m
 
 module _ (ts : List Track) (i : Item) where
-  item-at-span : (k : ℕ) → 0 < k → k ≤ 256 → cond (inBatch ts k i) (complete i) [] ≡ keep (inSpan ts k) (cond (isMeasured ts i) (complete i) [])
+  item-at-span : (k : ℕ) → 0 < k → k ≤ mostTracks → cond (inBatch ts k i) (complete i) [] ≡ keep (inSpan ts k) (cond (isMeasured ts i) (complete i) [])
   unfolding batchOf some
   item-at-span k h l =
       at-span ts (i .start) (i .span) k h l (amountAt i kind.Minimum) (amountAt i kind.MinContent) (amountAt i kind.MaxContent) (isMeasured ts i) (crossesFr ts i) refl
 
-  item-at-last : i .span ≤ 256 → cond (inBatch ts frBatch i) (complete i) [] ≡ keep (onFr ts) (cond (isMeasured ts i) (complete i) [])
+  item-at-last : i .span ≤ mostTracks → cond (inBatch ts frBatch i) (complete i) [] ≡ keep (onFr ts) (cond (isMeasured ts i) (complete i) [])
   unfolding batchOf some
   item-at-last h =
       at-last ts (i .start) (i .span) h (amountAt i kind.Minimum) (amountAt i kind.MinContent) (amountAt i kind.MaxContent) (isMeasured ts i) (crossesFr ts i) refl
 
 -- ---- What every measured item keeps
 
+three : (x y z : ℕ) {m : ℕ} → x ≤ m → y ≤ m → z ≤ m → (k : ContributionKind) → getD (x ∷ y ∷ z ∷ []) (kindIndex k) 0 ≤ m
+three x y z f g h kind.Minimum = f
+three x y z f g h kind.MinContent = g
+three x y z f g h kind.MaxContent = h
+
 module _ (n : ℕ) where
   complete-fits : (start span : ℕ) (a b c : Amount) → start + span ≤ n → 0 < span
       → amountNumber a ≤ mostContribution → amountNumber b ≤ mostContribution → amountNumber c ≤ mostContribution
       → MeasuredFit n (completeOf start span a b c)
   unfolding All
-  complete-fits start span (Given x) (Given y) (Given z) w s f g h = (record { within = w; spans = s; minimum = f; min-content = g; max-content = h }, tt)
+  complete-fits start span (Given x) (Given y) (Given z) w s f g h = (record { within = w; spans = s; contributions = three x y z f g h }, tt)
   complete-fits start span (Given x) (Given y) Absent w s f g h = tt
   complete-fits start span (Given x) Absent c w s f g h = tt
   complete-fits start span Absent b c w s f g h = tt
@@ -178,13 +187,13 @@ unfolding chained chainItems
 chained-items rows nexts first = sym (flat-map-map complete (λ (j : ℕ). itemOf (getD rows j [])) (chain nexts first))
 
 module _ (ts : List Track) (rows : List Row) (heads nexts : List ℕ)
-    (few : length ts ≤ 256) (fits : All (ItemFits (length ts)) (map itemOf rows))
-    (all : length heads ≡ 258) (g : Gathered ts rows heads nexts) where
+    (few : length ts ≤ mostTracks) (fits : All (ItemFits (length ts)) (map itemOf rows))
+    (all : length heads ≡ batches) (g : Gathered ts rows heads nexts) where
   -- a batch's chain names the parts of its items
-  batch-chain : (k : ℕ) → k < 258 → chained rows nexts (getD heads k 0) ≡ flatMap complete (keep (inBatch ts k) (map itemOf rows))
+  batch-chain : (k : ℕ) → k < batches → chained rows nexts (getD heads k 0) ≡ flatMap complete (keep (inBatch ts k) (map itemOf rows))
   batch-chain k l = chained-items rows nexts (getD heads k 0) ∙ ap (flatMap complete) (g .batch k (omega arith))
 
-  pub gathered-span : (k : ℕ) → 0 < k → k ≤ 256 → chained rows nexts (getD heads k 0) ≡ keep (inSpan ts k) (measuredItems ts (map itemOf rows))
+  pub gathered-span : (k : ℕ) → 0 < k → k ≤ mostTracks → chained rows nexts (getD heads k 0) ≡ keep (inSpan ts k) (measuredItems ts (map itemOf rows))
   unfolding measuredItems
   gathered-span k h l =
       batch-chain k (omega arith)
@@ -203,8 +212,8 @@ module _ (ts : List Track) (rows : List Row) (heads nexts : List ℕ)
       (λ (i : Item) (f : ItemFits (length ts) i). item-at-last ts i (omega (arith, f .0)))
       (map itemOf rows) fits
 
-  pub gathered-fits : (k : ℕ) → 0 < k → k < 258 → ChainFits (length ts) rows nexts (getD heads k 0)
-  gathered-fits k h l = record {
+  batch-fits : (k : ℕ) → 0 < k → k < batches → ChainFits (length ts) rows nexts (getD heads k 0)
+  batch-fits k h l = record {
     long = g .long;
     rising = g .rising;
     fit = rw (batch-chain k l)
@@ -212,9 +221,10 @@ module _ (ts : List Track) (rows : List Row) (heads nexts : List ℕ)
         (keep-all (ItemFits (length ts)) (inBatch ts k) (map itemOf rows) fits));
   }
 
-  pub gathered-whole : (k : ℕ) → 0 < k → k < 258 → Whole rows nexts (getD heads k 0)
+  batch-whole : (k : ℕ) → 0 < k → k < batches → Whole rows nexts (getD heads k 0)
   unfolding All chainItems
-  gathered-whole k h l inside = (whole .0, chained rows nexts (getD nexts (getD heads k 0) 0), chained-next rows nexts (getD heads k 0) (g .rising) short ∙ ap (_++ chained rows nexts (getD nexts (getD heads k 0) 0)) (whole .1))
+  batch-whole k h l inside =
+      (measuredOf (itemOf (getD rows (getD heads k 0) [])), chained rows nexts (getD nexts (getD heads k 0) 0), chained-next rows nexts (getD heads k 0) (g .rising) short ∙ ap (_++ chained rows nexts (getD nexts (getD heads k 0) 0)) whole)
     where
       short : getD heads k 0 < length nexts
       short = omega (arith, g .long)
@@ -225,7 +235,8 @@ module _ (ts : List Track) (rows : List Row) (heads nexts : List ℕ)
       passes : inBatch ts k (itemOf (getD rows (getD heads k 0) [])) ≡ true
       passes = (rw (chain-next nexts (getD heads k 0) (g .rising) short) at head-passes) .0
 
-      whole : (m : Measured) × (partAt rows (getD heads k 0) ≡ m ∷ [])
-      whole =
-          takes-of-gives (itemOf (getD rows (getD heads k 0) []))
-          (gives-of-batch ts (itemOf (getD rows (getD heads k 0) [])) k h passes)
+      whole : partAt rows (getD heads k 0) ≡ measuredOf (itemOf (getD rows (getD heads k 0) [])) ∷ []
+      whole = complete-one (itemOf (getD rows (getD heads k 0) [])) (gives-of-batch ts (itemOf (getD rows (getD heads k 0) [])) k h passes)
+
+  pub gathered-batches : BatchesFit (length ts) rows heads nexts
+  gathered-batches = record { heads-long = all; fits = batch-fits; whole = batch-whole }

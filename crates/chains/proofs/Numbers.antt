@@ -1,62 +1,18 @@
--- The number of an item's batch, by what its contributions are. Assumes nothing.
+-- The number of an item's batch, by its tests. Assumes nothing.
 use mathlib.Core.Path.{_≡_, refl}
-use mathlib.Core.Bool.{Bool, true, false, cond, not, _&&_, _||_}
-use mathlib.Core.List.{List, [], _∷_}
+use mathlib.Core.Bool.{Bool, true, false, cond, not, _&&_}
+use mathlib.Core.List.{List}
 use Prim.Native.Nat.{ℕ, _+_, _≤_, _<_}
 use native.Mathlib.Omega.{arith}
 use lib.Dec.{eqb}
 use borrow.Author.Tests.{eqb-true}
-use Rattle.laws.specs.Lists.{some}
-use Rattle.kinds.specs.Kinds.{amountAt}
-use Rattle.kinds.specs.declared.amount.Amount.{Amount}
-use Rattle.kinds.specs.declared.amount.Amount.the-variants.{Absent, Given}
+use Rattle.rounds.specs.Rule.{mostTracks}
 use Rattle.kinds.specs.declared.track.Track.{Track}
-use Rattle.kinds.specs.declared.item.ContributionKind.the-variants as kind
 use Rattle.kinds.specs.declared.item.Item.{Item}
-use Rattle.spanned.specs.Rule.{isMeasured, crossesFr, isAbsent, lacksContribution}
+use Rattle.spanned.specs.Rule.{isMeasured, crossesFr, lacksContribution}
 use Rattle.spanned.specs.Sound.{ItemFits}
-use Rattle.lines.specs.declared.measured.Measured.{Measured}
-use Rattle.lines.specs.Rule.{completeOf, complete}
-use Rattle.chains.specs.Batches.{frBatch, batchOf}
-
--- ---- An item is complete just where it lacks nothing
-
--- one of three is absent
-abbrev pub lacks : Amount → Amount → Amount → Bool
-lacks a b c = isAbsent a || (isAbsent b || (isAbsent c || false))
-
-lacks-of-none : (start span : ℕ) (a b c : Amount) → [] ≡ completeOf start span a b c → lacks a b c ≡ true
-lacks-of-none start span (Given x) (Given y) (Given z) e = let z : _≡_ {A = ℕ} 0 1 = cc in absurd (omega arith)
-lacks-of-none start span (Given x) (Given y) Absent e = refl
-lacks-of-none start span (Given x) Absent c e = refl
-lacks-of-none start span Absent b c e = refl
-
-gives-of-one : (start span : ℕ) (a b c : Amount) (m : Measured) → m ∷ [] ≡ completeOf start span a b c → lacks a b c ≡ false
-gives-of-one start span (Given x) (Given y) (Given z) m e = refl
-gives-of-one start span (Given x) (Given y) Absent m e = let z : _≡_ {A = ℕ} 0 1 = cc in absurd (omega arith)
-gives-of-one start span (Given x) Absent c m e = let z : _≡_ {A = ℕ} 0 1 = cc in absurd (omega arith)
-gives-of-one start span Absent b c m e = let z : _≡_ {A = ℕ} 0 1 = cc in absurd (omega arith)
-
-one-of-gives : (start span : ℕ) (a b c : Amount) → lacks a b c ≡ false → (m : Measured) × (completeOf start span a b c ≡ m ∷ [])
-one-of-gives start span (Given x) (Given y) (Given z) e = (record { start = start; span = span; minimum = x; «min_content» = y; «max_content» = z }, refl)
-one-of-gives start span (Given x) (Given y) Absent e = let z : _≡_ {A = ℕ} 0 1 = cc in absurd (omega arith)
-one-of-gives start span (Given x) Absent c e = let z : _≡_ {A = ℕ} 0 1 = cc in absurd (omega arith)
-one-of-gives start span Absent b c e = let z : _≡_ {A = ℕ} 0 1 = cc in absurd (omega arith)
-
-module _ (i : Item) where
-  pub lacks-of-left-out : [] ≡ complete i → lacksContribution i ≡ true
-  unfolding some
-  lacks-of-left-out e = lacks-of-none (i .start) (i .span) (amountAt i kind.Minimum) (amountAt i kind.MinContent) (amountAt i kind.MaxContent) e
-
-  pub gives-of-takes : (m : Measured) → m ∷ [] ≡ complete i → lacksContribution i ≡ false
-  unfolding some
-  gives-of-takes m e = gives-of-one (i .start) (i .span) (amountAt i kind.Minimum) (amountAt i kind.MinContent) (amountAt i kind.MaxContent) m e
-
-  pub takes-of-gives : lacksContribution i ≡ false → (m : Measured) × (complete i ≡ m ∷ [])
-  unfolding some
-  takes-of-gives e = one-of-gives (i .start) (i .span) (amountAt i kind.Minimum) (amountAt i kind.MinContent) (amountAt i kind.MaxContent) e
-
--- ---- A batch's number
+use Rattle.lines.specs.Chains.{frBatch, batches}
+use Rattle.chains.specs.Batches.{batchOf}
 
 -- its number by its three tests
 abbrev pub numbered : (measured lacking onFr : Bool) (span : ℕ) → ℕ
@@ -84,11 +40,11 @@ module _ (ts : List Track) (i : Item) where
   batch-of-span e m f = rw (e, m, f) refl
 
   -- every number has its head
-  pub batch-of-lt : (n : ℕ) → n ≤ 256 → ItemFits n i → batchOf ts i < 258
+  pub batch-of-lt : (n : ℕ) → n ≤ mostTracks → ItemFits n i → batchOf ts i < batches
   unfolding batchOf
   batch-of-lt n h fits = go (isMeasured ts i) (lacksContribution i) (crossesFr ts i) (i .start) (i .span) (fits .0)
     where
-      go : (m l f : Bool) (start span : ℕ) → start + span ≤ n → numbered m l f span < 258
+      go : (m l f : Bool) (start span : ℕ) → start + span ≤ n → numbered m l f span < batches
       go true true f start span w = omega arith
       go true false true start span w = omega arith
       go true false false start span w = omega arith

@@ -1,21 +1,19 @@
--- The batches of the items, by number: 0 for an item that takes no part, its span, and a last one for items on an fr track; and
--- what the chains say when all items are gathered. Assumes nothing.
+-- The batch of an item, by number: 0 for one that takes no part, its span, and a last one for items on an fr track; and what the
+-- chains say when all items are gathered. Assumes nothing.
 use mathlib.Core.Path.{_≡_}
-use Prim.Native.Nat.{ℕ, _<_}
+use Prim.Native.Nat.{ℕ, _≤_, _<_}
 use mathlib.Core.Bool.{Bool, cond, not, _&&_}
 use mathlib.Core.List.{List, [], map}
 use lib.Dec.{eqb}
 use lib.ListN.{length, getD}
-use Rattle.laws.specs.Lists.{keep}
+use Rattle.laws.specs.Lists.{All, keep}
+use Rattle.rounds.specs.Rule.{mostTracks}
 use Rattle.kinds.specs.Kinds.{Row, itemOf}
 use Rattle.kinds.specs.declared.track.Track.{Track}
 use Rattle.kinds.specs.declared.item.Item.{Item}
 use Rattle.spanned.specs.Rule.{isMeasured, crossesFr, lacksContribution}
-use Rattle.lines.specs.Chains.{Rising, chain}
-
--- of the items on an fr track, past every span of a board
-abbrev pub frBatch : ℕ
-frBatch = 257
+use Rattle.spanned.specs.Sound.{ItemFits}
+use Rattle.lines.specs.Chains.{Rising, chain, frBatch, batches}
 
 unfoldable pub batchOf : List Track → Item → ℕ
 batchOf ts i = cond (isMeasured ts i && not (lacksContribution i)) (cond (crossesFr ts i) frBatch (i .span)) 0
@@ -32,3 +30,10 @@ pub record Gathered (ts : List Track) (rows : List Row) (heads nexts : List ℕ)
   pub rising : Rising nexts
   pub long : length nexts ≡ length rows
   pub batch : (k : ℕ) → k < length heads → chainItems rows nexts (getD heads k 0) ≡ keep (inBatch ts k) (map itemOf rows)
+
+-- what gathering asks: a head for each batch, a next beside each item, and items on tracks that are there
+pub record Gatherable (tracks items : List Row) (heads nexts : List ℕ) : Type 0 where
+  pub few : length tracks ≤ mostTracks
+  pub heads-long : length heads ≡ batches
+  pub nexts-long : length nexts ≡ length items
+  pub items-fit : All (ItemFits (length tracks)) (map itemOf items)

@@ -3,8 +3,8 @@ use mathlib.Core.Path.{_≡_}
 use mathlib.Core.Bool.{Bool, true, false, cond}
 use Prim.Native.Nat.{ℕ}
 use mathlib.Core.List.{List, [], _∷_}
+use Rattle.laws.specs.Faults.{first-fine}
 use Rattle.records.specs.Rule.{Fault, fine, fault, first}
-use Rattle.records.proofs.Firsts.{first-fine}
 use Rattle.checks.specs.Rule.{firstOf}
 
 -- the first of two, each known by the rule

@@ -1,7 +1,6 @@
 -- The laws of the checks, from the ground up. A function's own proof stands in the folder of its name.
 
--- a test of each of three contributions, and two tests one after the other
-pub mod Three
+-- two tests one after the other
 pub mod Both
 -- the lowest record at fault, and a loop that looks for it
 pub mod LowestRecord

@@ -26,12 +26,12 @@ use Rattle.kinds.specs.declared.item.ContributionKind.{ContributionKind}
 use Rattle.kinds.specs.declared.item.ContributionKind.the-variants as kind
 use Rattle.kinds.specs.declared.item.Item.{Item}
 use Rattle.records.specs.Rule.{fine, fault, first}
-use Rattle.records.proofs.Firsts.{fine-both}
 use Rattle.checks.specs.Rule.{mostSize, mostContribution, amountOver, constraintOver, minimumOver, maximumOver, spaceOver, trackOver, itemOver, isOutside, lowestSpace, lowestTrack, lowestItem, overFault, firstOf, recordFault}
 use Rattle.checks.specs.Fits.{SpaceFits}
 use Rattle.spanned.specs.Sound.{mostOf, TrackFits, ItemFits, Sound}
 use Rattle.checks.proofs.LowestRecord.{false-of-fine, none-of-fine}
 use Rattle.laws.specs.Alls.{all-map, all-both, all-image}
+use Rattle.laws.specs.Faults.{fine-both}
 
 neither : (x y : Bool) → x || y ≡ false → (x ≡ false) × (y ≡ false)
 neither true y e = (e, cc)

@@ -8,7 +8,7 @@ use lib.Dec.{ltb, leb, eqb}
 use lib.ListN.{length}
 use Rattle.laws.specs.Lists.{some}
 use Rattle.rounds.specs.Rule.{mostDots}
-use Rattle.kinds.specs.Kinds.{amountAt, fallsIn}
+use Rattle.kinds.specs.Kinds.{amountAt, falls}
 use Rattle.kinds.specs.declared.amount.Amount.{Amount}
 use Rattle.kinds.specs.declared.amount.Amount.the-variants.{Absent, Given}
 use Rattle.kinds.specs.declared.constraint.Constraint.{Constraint}
@@ -74,7 +74,7 @@ isLacking ts i = isMeasured ts i && lacksContribution i
 -- ---- 10: a measured item's row falls
 
 abbrev pub isFalling : List Track → Item → Bool
-isFalling ts i = isMeasured ts i && fallsIn (i .row)
+isFalling ts i = isMeasured ts i && falls i
 
 -- ---- 11: span 2 or more crosses an fr track
 

@@ -1,16 +1,15 @@
 // What an item can be refused for, each as a test of it alone among its tracks.
 use crate::over::item_over;
 use crate::refusal::Refusal;
-use kinds::Amount;
-use kinds::ContributionKind;
 use kinds::Item;
 use spanned::crosses_fr;
 use spanned::is_measured;
+use spanned::lacks_contribution;
 ghost use mathlib.Core.Path.{_≡_};
 ghost use mathlib.Core.List.{map};
 ghost use Rattle.records.specs.Rule.{fault};
 ghost use Rattle.kinds.specs.Kinds.{trackOf};
-ghost use Rattle.checks.specs.Rule.{isOutside, lacksContribution};
+ghost use Rattle.checks.specs.Rule.{isOutside};
 ghost use Rattle.checks.specs.Answer.{refusalFault, checkNumber, failsOf};
 
 pub(crate) enum ItemCheck {
@@ -71,23 +70,4 @@ fn is_outside(item: Item, tracks: usize) -> bool
         return true;
     }
     item.start as usize + item.span as usize > tracks
-}
-
-fn lacks_contribution(item: Item) -> bool
-    ensures { λ r. ⌜ r ≡ lacksContribution item ⌝ }
-{
-    let minimum = item.amount(ContributionKind::Minimum);
-    let min_content = item.amount(ContributionKind::MinContent);
-    let max_content = item.amount(ContributionKind::MaxContent);
-    if let Amount::Absent = minimum {
-        return true;
-    }
-    if let Amount::Absent = min_content {
-        return true;
-    }
-    if let Amount::Absent = max_content {
-        true
-    } else {
-        false
-    }
 }

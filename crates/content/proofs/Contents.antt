@@ -5,6 +5,7 @@ use Prim.Native.Nat.{ℕ, zero, suc, _+_, _-_, _≤_, _<_}
 use native.Mathlib.Omega.{arith}
 use lib.ListN.{length, getD}
 use Rattle.laws.specs.Lists.{All, keep, inTurn, upFrom}
+use Rattle.rounds.specs.Rule.{mostTracks}
 use Rattle.kinds.specs.Kinds.{Row, itemOf}
 use Rattle.kinds.specs.declared.constraint.Constraint.{Constraint}
 use Rattle.kinds.specs.declared.track.Track.{Track}
@@ -16,7 +17,7 @@ use Rattle.lines.specs.declared.passes.Pass.the-variants.{Missing}
 use Rattle.lines.specs.Rule.{measuredItems, inOneTrack, onFr, inSpan, start, singles, batched, longer, lastBatch, missing, content}
 use Rattle.lines.specs.Rows.{passOf}
 use Rattle.lines.specs.Fits.{LinesFit}
-use Rattle.lines.specs.Chains.{chained}
+use Rattle.lines.specs.Chains.{chained, frBatch, batches}
 use Rattle.lines.proofs.Fits.{missing-fit}
 use Rattle.chains.specs.Batches.{Gathered}
 use Rattle.chains.proofs.Batches.{gathered-one, gathered-span, gathered-last}
@@ -39,8 +40,8 @@ up-same {S} f g k (suc n) s h =
     ap (λ (t : S). inTurn f (upFrom (k + 1) n) t) (ap (λ (q : S → S). q s) (h k (omega arith) (omega arith)))
     ∙ up-same f g (k + 1) n (g k s) (λ j a b. h j (omega arith) (omega arith))
 
-module _ (c : Constraint) (ts : List Track) (rows : List Row) (heads nexts : List ℕ) (few : length ts ≤ 256) (fits : All (ItemFits (length ts)) (map itemOf rows))
-    (all : length heads ≡ 258) (g : Gathered ts rows heads nexts) where
+module _ (c : Constraint) (ts : List Track) (rows : List Row) (heads nexts : List ℕ) (few : length ts ≤ mostTracks) (fits : All (ItemFits (length ts)) (map itemOf rows))
+    (all : length heads ≡ batches) (g : Gathered ts rows heads nexts) where
   abbrev items : List Measured
   items = measuredItems ts (map itemOf rows)
 
@@ -48,7 +49,7 @@ module _ (c : Constraint) (ts : List Track) (rows : List Row) (heads nexts : Lis
   prepared ls out s o = o ∙ ap₂ (singles c) (gathered-one ts rows heads nexts few fits all g) s
 
   pub content-made : (n : ℕ) (ls out : List Line) → n ≡ length ts → ls ≡ singles c (keep (inOneTrack ts) items) (start ts)
-      → out ≡ missing (batched c (chained rows nexts (getD heads 257 0)) (inTurn (λ (k : ℕ). batched c (chained rows nexts (getD heads k 0))) (upFrom 2 (n - 1)) ls))
+      → out ≡ missing (batched c (chained rows nexts (getD heads frBatch 0)) (inTurn (λ (k : ℕ). batched c (chained rows nexts (getD heads k 0))) (upFrom 2 (n - 1)) ls))
       → out ≡ content c ts items
   unfolding content longer lastBatch
   content-made n ls out e l o =

@@ -57,6 +57,6 @@ fn hand_out(
 {
     lists::load(dots, affected, limited, rooms, gains);
     let done = rounds::run_rounds(dots, gains);
-    lists::settle(dots, affected, limited, rooms, gains);
+    lists::to_gains(dots, affected, limited, rooms, gains);
     done
 }

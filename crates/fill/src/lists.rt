@@ -51,7 +51,7 @@ pub fn load(dots: u32, affected: &[bool], limited: &[bool], rooms: &[u32], rests
 }
 
 // Each track's gain in place of what is left of its rest.
-pub fn settle(dots: u32, affected: &[bool], limited: &[bool], rooms: &[u32], rests: &mut [u32])
+pub fn to_gains(dots: u32, affected: &[bool], limited: &[bool], rooms: &[u32], rests: &mut [u32])
     requires { ⌜ OneLength (now affected) (now limited) (now rooms) (now rests) ⌝ }
     ensures { λ _. ⌜ now (rests .exit) ≡ lost (caps dots (tracksOf (now (affected .entry)) (now (limited .entry)) (now (rooms .entry)))) (now (rests .entry)) ⌝ }
 {

@@ -15,7 +15,8 @@ use Rattle.spanned.specs.Rule.{isFr}
 use Rattle.lines.specs.declared.line.Line.{Line}
 use Rattle.lines.specs.declared.measured.Measured.{Measured}
 use Rattle.lines.specs.declared.fr.Fr.{Fr}
-use Rattle.lines.specs.Rule.{number, flexOf, bases, searchOver, baseFr, basesFr, itemFr, spanned}
+use Rattle.kinds.specs.declared.item.ContributionKind.the-variants as kind
+use Rattle.lines.specs.Rule.{contributionAt, number, flexOf, bases, searchOver, baseFr, basesFr, itemFr, spanned}
 use Rattle.lines.specs.Fr.{frOf, noFr, largerFr, Flex, frNow, short, hold, search}
 use Rattle.lines.specs.Fits.{LineFits, LinesFit, MeasuredFits, MeasuredFit}
 use Rattle.lines.proofs.Slices.{slice-fits}
@@ -91,10 +92,10 @@ bases-fr-bounds ls a = bases-bounds-from ls noFr a no-fr-bounds
 module _ (ls : List Line) (t : length ls ≤ mostTracks) (f : LinesFit ls) where
   item-bounds : (n : ℕ) (i : Measured) (fr : Fr) → MeasuredFits n i → FrBounds fr → FrBounds (itemFr ls i fr)
   item-bounds n i fr m p =
-      let c = m .max-content in
+      let c = m .contributions kind.MaxContent in
       let l : length (spanned i ls) ≤ mostTracks = simp (length-take, length-drop) (omega arith) in
-      larger-bounds (searchOver (i .«max_content») (spanned i ls)) fr
-      (search-over-bounds (i .«max_content») (spanned i ls) (omega arith) l (slice-fits (i .start) (i .span) ls f)) p
+      larger-bounds (searchOver (contributionAt i kind.MaxContent) (spanned i ls)) fr
+      (search-over-bounds (contributionAt i kind.MaxContent) (spanned i ls) (omega arith) l (slice-fits (i .start) (i .span) ls f)) p
 
   items-bounds : (n : ℕ) (batch : List Measured) (fr : Fr) → MeasuredFit n batch → FrBounds fr → FrBounds (inTurn (itemFr ls) batch fr)
   unfolding All inTurn

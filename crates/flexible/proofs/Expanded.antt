@@ -29,7 +29,7 @@ module _ (fr : Fr) where
   expand-base-le ls f a = all-image (λ (l : Line). l .base ≤ mostGrown) (flexed fr) LineFits (λ l k. flexed-base-le l f k) ls a
 
   -- what is told of each line without its base stays
-  expand-keeps : {A : Type 0} (told : Line → A) → ((l : Line) (base : ℕ) → told (record { track = l .track; base = base; limit = l .limit; grows = l .grows }) ≡ told l)
+  expand-keeps : {A : Type 0} (told : Line → A) → ((l : Line) (base : ℕ) → told (record { track = l .track; base = base; limit = l .limit; growable = l .growable }) ≡ told l)
       → (ls : List Line) → map told (expand fr ls) ≡ map told ls
   unfolding expand
   expand-keeps told e [] = refl
@@ -41,8 +41,8 @@ module _ (fr : Fr) where
   pub expand-limits : (ls : List Line) → map (λ (l : Line). l .limit) (expand fr ls) ≡ map (λ (l : Line). l .limit) ls
   expand-limits ls = expand-keeps (λ (l : Line). l .limit) (λ l base. refl) ls
 
-  pub expand-grows : (ls : List Line) → map (λ (l : Line). l .grows) (expand fr ls) ≡ map (λ (l : Line). l .grows) ls
-  expand-grows ls = expand-keeps (λ (l : Line). l .grows) (λ l base. refl) ls
+  pub expand-growable : (ls : List Line) → map (λ (l : Line). l .growable) (expand fr ls) ≡ map (λ (l : Line). l .growable) ls
+  expand-growable ls = expand-keeps (λ (l : Line). l .growable) (λ l base. refl) ls
 
   pub length-expand : (ls : List Line) → length (expand fr ls) ≡ length ls
   unfolding expand

@@ -36,9 +36,9 @@ module _ (fr : Fr) (row : Row) (l : Line) (e : l ≡ lineOf row) where
       ∙ ap (λ (k : ℕ). cond (isFr (lineOf row .track)) k (lineOf row .base)) (r ∙ ap₂ (λ (k : Line) (m : ℕ). max (k .base) (m * fr .dots / fr .per)) e q)
 
   pub flexed-row : (r : Row) (b : Bool) (n g base : ℕ) → b ≡ isFr (lineOf row .track) → n ≡ number (lineOf row) → g ≡ max (l .base) (n * fr .dots / fr .per) → base ≡ cond b g (l .base)
-      → lineOf r ≡ line (lineOf row .track) base (l .limit) (l .grows) → lineOf r ≡ flexed fr (lineOf row)
+      → lineOf r ≡ line (lineOf row .track) base (l .limit) (l .growable) → lineOf r ≡ flexed fr (lineOf row)
   flexed-row r b n g base p q t s h =
-      h ∙ ap₂ (λ (k : Line) (m : ℕ). line (lineOf row .track) m (k .limit) (k .grows)) e (flexed-base-is b n g base p q t s)
+      h ∙ ap₂ (λ (k : Line) (m : ℕ). line (lineOf row .track) m (k .limit) (k .growable)) e (flexed-base-is b n g base p q t s)
 
 -- ---- The fr of the bases
 

@@ -7,11 +7,11 @@ use Rattle.kinds.specs.declared.constraint.Constraint.the-variants.{Definite, M
 use Rattle.kinds.specs.declared.track.Track.{Track}
 use Rattle.lines.specs.declared.line.Line.{Line}
 use Rattle.lines.specs.declared.measured.Measured.{Measured}
-use Rattle.lines.specs.Rule.{onFr, contentFr, frFor}
+use Rattle.lines.specs.Rule.{onFr, maxContentFr, frFor}
 use Rattle.flexible.specs.Flexes.{batchFr, frOver}
 
 pub fr-for-is : (e : Constraint) (ts : List Track) (is : List Measured) (ls : List Line) → frFor e ts is ls ≡ frOver e (keep (onFr ts) is) ls
-unfolding frFor contentFr batchFr
+unfolding frFor maxContentFr batchFr
 fr-for-is (Definite n) ts is ls = refl
 fr-for-is MinContent ts is ls = refl
 fr-for-is MaxContent ts is ls = refl

@@ -10,7 +10,8 @@ use Rattle.kinds.specs.Kinds.{Row}
 use Rattle.lines.specs.declared.line.Line.{Line}
 use Rattle.lines.specs.declared.measured.Measured.{Measured}
 use Rattle.lines.specs.declared.fr.Fr.{Fr}
-use Rattle.lines.specs.Rule.{bases, searchOver, itemFr}
+use Rattle.kinds.specs.declared.item.ContributionKind.the-variants as kind
+use Rattle.lines.specs.Rule.{contributionAt, bases, searchOver, itemFr}
 use Rattle.lines.specs.Fr.{noFr, largerFr}
 use Rattle.lines.specs.Rows.{linesOf}
 use Rattle.lines.proofs.Slices.{slice-fits-rows, lines-of-spanned}
@@ -29,9 +30,9 @@ store-slice-fits rows held a n h s =
       fits = slice-fits-rows a (a + n - a) rows (s .fits);
     }
 
-pub span-fr-is : (rows : List Row) (i : Measured) (fr found r : Fr) → found ≡ searchOver (i .«max_content») (linesOf (take (i .start + i .span - i .start) (drop (i .start) rows)))
+pub span-fr-is : (rows : List Row) (i : Measured) (fr found r : Fr) → found ≡ searchOver (contributionAt i kind.MaxContent) (linesOf (take (i .start + i .span - i .start) (drop (i .start) rows)))
     → r ≡ largerFr found fr → r ≡ itemFr (linesOf rows) i fr
-span-fr-is rows i fr found r e p = p ∙ ap (λ (f : Fr). largerFr f fr) (e ∙ ap (searchOver (i .«max_content»)) (lines-of-spanned i rows))
+span-fr-is rows i fr found r e p = p ∙ ap (λ (f : Fr). largerFr f fr) (e ∙ ap (searchOver (contributionAt i kind.MaxContent)) (lines-of-spanned i rows))
 
 -- ---- By the free space
 

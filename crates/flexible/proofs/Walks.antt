@@ -10,7 +10,7 @@ use Rattle.laws.specs.Sums.{sum}
 use Rattle.laws.specs.Walk.{next, kept}
 use Rattle.kinds.specs.Kinds.{Row, maximumNumber}
 use Rattle.kinds.specs.declared.track.Maximum.{Maximum}
-use Rattle.spanned.specs.Rule.{isFr, isFrMaximum}
+use Rattle.spanned.specs.Rule.{isFr}
 use Rattle.lines.specs.declared.line.Line.{Line}
 use Rattle.lines.specs.declared.fr.Fr.{Fr}
 use Rattle.lines.specs.Rule.{number}
@@ -22,9 +22,6 @@ use Rattle.flexible.specs.Flexes.{flexAt, flexes, notFr, heldFirst, held
 module _ (row : Row) (l : Line) (m : Maximum) (e : l ≡ lineOf row) (t : l .track .maximum ≡ m) where
   pub number-is : maximumNumber m ≡ number (lineOf row)
   number-is = ap maximumNumber (sym t) ∙ ap (λ (k : Line). number k) e
-
-  pub is-fr-is : isFrMaximum m ≡ isFr (lineOf row .track)
-  is-fr-is = ap isFrMaximum (sym t) ∙ ap (λ (k : Line). isFr (k .track)) e
 
 -- a line that is not held is short where its share is below its base
 pub short-open : (fr : Fr) (row : Row) (held : Bool) (n : ℕ) → held ≡ false → n ≡ number (lineOf row)

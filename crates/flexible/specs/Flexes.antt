@@ -18,8 +18,7 @@ use Rattle.lines.specs.declared.fr.Fr.{Fr}
 use Rattle.lines.specs.Rule.{number, bases, searchOver, baseFr, basesFr, itemFr}
 use Rattle.lines.specs.Fr.{noFr, Flex, short}
 use Rattle.lines.specs.Rows.{linesOf}
-use Rattle.lines.specs.Fits.{LinesFit, MeasuredFit}
-use Rattle.lines.specs.Chains.{Rising, chained}
+use Rattle.lines.specs.Fits.{LinesFit}
 
 -- ---- The search
 
@@ -83,7 +82,7 @@ pub record FrFits (fr : Fr) : Type 0 where
 
 -- and the most that the factors of a board come to
 abbrev pub mostPer : ℕ
-mostPer = 25600000
+mostPer = mostTracks * mostFactor
 
 pub record FrBounds (fr : Fr) : Type 0 where
   pub fits : FrFits fr
@@ -95,9 +94,3 @@ mostGrown = 1677721500
 
 abbrev pub FactorFits : Line → Type 0
 FactorFits l = number l ≤ mostFactor
-
--- the chain of a batch, on a board of so many tracks
-pub record BatchFits (tracks : ℕ) (items : List Row) (nexts : List ℕ) (first : ℕ) : Type 0 where
-  pub one-length : length nexts ≡ length items
-  pub rising : Rising nexts
-  pub fits : MeasuredFit tracks (chained items nexts first)

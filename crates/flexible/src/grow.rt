@@ -2,8 +2,8 @@
 use crate::tracks;
 use lines::Fr;
 use lines::Line;
-use lines::larger;
 use lines::with_sizes;
+use rounds::larger;
 ghost use mathlib.Core.Path.{_≡_};
 ghost use Rattle.lines.specs.Rule.{flexed, expand};
 ghost use Rattle.lines.specs.Rows.{lineOf, linesOf};
@@ -31,12 +31,12 @@ fn flexed(fr: Fr, row: [u32; 8]) -> [u32; 8]
 {
     let line = Line::of_row(row);
     let limit = line.limit;
-    let is_fr = tracks::is_fr(row);
-    let factor = tracks::factor(row);
+    let is_fr = tracks::row_is_fr(row);
+    let factor = tracks::maximum_number(row);
     let dots = fr.dots as u64;
     let per = fr.per as u64;
     let share = factor as u64 * dots / per;
     let grown = larger(line.base, share as u32);
     let base = tracks::choose(is_fr, grown, line.base);
-    with_sizes(row, base, limit, line.grows)
+    with_sizes(row, base, limit, line.growable)
 }

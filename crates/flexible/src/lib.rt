@@ -1,14 +1,14 @@
 // The flexible tracks: step 6 of the sizing (the rule is in the specs of lines).
-mod content;
 mod grow;
+mod max_content;
 mod search;
 mod tracks;
 
-pub use content::bases_fr;
-pub use content::content_fr;
 pub use grow::expand;
 use kinds::Constraint;
 use lines::Fr;
+pub use max_content::bases_fr;
+pub use max_content::max_content_fr;
 pub use search::search_over;
 ghost use mathlib.Core.Path.{_≡_};
 ghost use Prim.Native.Nat.{_≤_};
@@ -17,8 +17,8 @@ ghost use Rattle.rounds.specs.Rule.{mostDots};
 ghost use Rattle.kinds.specs.Kinds.{constraintNumber};
 ghost use Rattle.lines.specs.Rule.{bases, expand};
 ghost use Rattle.lines.specs.Rows.{linesOf};
-ghost use Rattle.lines.specs.Chains.{chained};
-ghost use Rattle.flexible.specs.Flexes.{frOver, StoreFits, BatchFits};
+ghost use Rattle.lines.specs.Chains.{chained, ChainFits};
+ghost use Rattle.flexible.specs.Flexes.{frOver, StoreFits};
 
 // Step 6 whole: every fr track grows, by cases on the expansion space. `total` is the sum of the bases.
 pub fn flex(
@@ -31,7 +31,7 @@ pub fn flex(
     held: &mut [bool],
 )
     requires { ⌜ StoreFits (now lines) (now held) ⌝ }
-    requires { ⌜ BatchFits (length (now lines)) (now items) (now nexts) first ⌝ }
+    requires { ⌜ ChainFits (length (now lines)) (now items) (now nexts) first ⌝ }
     requires { ⌜ (total ≡ bases (linesOf (now lines))) × (constraintNumber e ≤ mostDots) ⌝ }
     ensures { λ _. ⌜ linesOf (now (lines .exit)) ≡ expand (frOver e (chained (now (items .entry)) (now (nexts .entry)) first) (linesOf (now (lines .entry)))) (linesOf (now (lines .entry))) ⌝ }
 {
@@ -50,7 +50,7 @@ fn fr_over(
     held: &mut [bool],
 ) -> Fr
     requires { ⌜ StoreFits (now lines) (now held) ⌝ }
-    requires { ⌜ BatchFits (length (now lines)) (now items) (now nexts) first ⌝ }
+    requires { ⌜ ChainFits (length (now lines)) (now items) (now nexts) first ⌝ }
     requires { ⌜ total ≡ bases (linesOf (now lines)) ⌝ }
     ensures { λ r. ⌜ r ≡ frOver e (chained (now (items .entry)) (now (nexts .entry)) first) (linesOf (now (lines .entry))) ⌝ }
 {
@@ -62,6 +62,6 @@ fn fr_over(
             Fr { dots: 0, per: 1000 }
         }
         Constraint::MinContent => Fr { dots: 0, per: 1000 },
-        Constraint::MaxContent => content::content_fr(first, nexts, items, lines, held),
+        Constraint::MaxContent => max_content::max_content_fr(first, nexts, items, lines, held),
     }
 }

@@ -1,8 +1,8 @@
 // The fr search over a run of lines, in exact fractions.
 use crate::tracks;
 use lines::Fr;
-use lines::larger;
-use lines::less;
+use rounds::larger;
+use rounds::less;
 ghost use mathlib.Core.Path.{_≡_};
 ghost use lib.ListN.{length};
 ghost use Rattle.laws.specs.Lists.{some};
@@ -37,7 +37,7 @@ fn hold_first(lines: &[[u32; 8]], held: &mut [bool])
     let mut i = 0;
     while i < held.len() {
         let row = lines[i];
-        let fr = tracks::is_fr(row);
+        let fr = tracks::row_is_fr(row);
         held[i] = !fr;
         i += 1;
     }
@@ -55,7 +55,7 @@ fn fr_now(space: u32, lines: &[[u32; 8]], held: &[bool]) -> Fr
         let row = lines[i];
         let mark = held[i];
         sizes += tracks::choose(mark, row[4], 0);
-        factors += tracks::choose(mark, 0, tracks::factor(row));
+        factors += tracks::choose(mark, 0, tracks::maximum_number(row));
         i += 1;
     }
     Fr {
@@ -68,7 +68,7 @@ fn fr_now(space: u32, lines: &[[u32; 8]], held: &[bool]) -> Fr
 fn is_short(fr: Fr, row: [u32; 8], held: bool) -> bool
     ensures { λ r. ⌜ r ≡ short fr (flexAt (lineOf row) held) ⌝ }
 {
-    let factor = tracks::factor(row);
+    let factor = tracks::maximum_number(row);
     let share = factor as u64 * fr.dots as u64;
     let asked = row[4] as u64 * fr.per as u64;
     if held {
@@ -80,7 +80,8 @@ fn is_short(fr: Fr, row: [u32; 8], held: bool) -> bool
 // Holds every line that is short, and tells whether there was one.
 fn hold_short(fr: Fr, lines: &[[u32; 8]], held: &mut [bool]) -> bool
     requires { ⌜ length (now held) ≡ length (now lines) ⌝ }
-    ensures { λ r. ⌜ (r ≡ some (short fr) (flexes (linesOf (now (lines .entry))) (now (held .entry)))) × (now (held .exit) ≡ heldNext fr (linesOf (now (lines .entry))) (now (held .entry))) ⌝ }
+    ensures { λ r. ⌜ (r ≡ some (short fr) (flexes (linesOf (now (lines .entry))) (now (held .entry))))
+        × (now (held .exit) ≡ heldNext fr (linesOf (now (lines .entry))) (now (held .entry))) ⌝ }
 {
     let mut any = false;
     let mut i = 0;

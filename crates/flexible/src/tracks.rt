@@ -7,24 +7,15 @@ ghost use Rattle.spanned.specs.Rule.{isFr};
 ghost use Rattle.lines.specs.Rule.{number};
 ghost use Rattle.lines.specs.Rows.{lineOf};
 
-pub(crate) fn is_fr(row: [u32; 8]) -> bool
+pub(crate) fn row_is_fr(row: [u32; 8]) -> bool
     ensures { λ r. ⌜ r ≡ isFr (lineOf row .track) ⌝ }
 {
     let line = Line::of_row(row);
-    let track = line.track;
-    let maximum = track.maximum;
-    match maximum {
-        Maximum::Fixed(_) => false,
-        Maximum::Auto => false,
-        Maximum::MinContent => false,
-        Maximum::MaxContent => false,
-        Maximum::FitContent(_) => false,
-        Maximum::Fr(_) => true,
-    }
+    spanned::is_fr(line.track)
 }
 
 // The number of its maximum: the factor in thousandths, where it is fr.
-pub(crate) fn factor(row: [u32; 8]) -> u32
+pub(crate) fn maximum_number(row: [u32; 8]) -> u32
     ensures { λ r. ⌜ r ≡ number (lineOf row) ⌝ }
 {
     let line = Line::of_row(row);

@@ -12,22 +12,22 @@ use borrow.Author.Tests.{lt-ltb, le-ltb}
 use Rattle.float_laws.specs.Std.{clear}
 use Rattle.float_laws.proofs.Grains.{grains, pattern, bits-of-grains}
 use Rattle.float_laws.proofs.Order.{clear-bits-le}
-use Rattle.float_laws.specs.Numbers.{zero32}
+use Rattle.float_laws.specs.Numbers.{signBit, zero32}
 
-clear-below : (x : Float) → T (fits binary32 x) → clear x ≡ true → true ≡ ltb (toBits binary32 x) 0x8000_0000
-clear-below x p c = sym (lt-ltb (toBits binary32 x) 0x8000_0000 (lt-of-le-of-lt (clear-bits-le binary32 x p c) (lit< tt)))
+clear-below : (x : Float) → T (fits binary32 x) → clear x ≡ true → true ≡ ltb (toBits binary32 x) signBit
+clear-below x p c = sym (lt-ltb (toBits binary32 x) signBit (lt-of-le-of-lt (clear-bits-le binary32 x p c) (lit< tt)))
 
-infinity-not-below : 0x8000_0000 ≤ toBits binary32 (inf true)
+infinity-not-below : signBit ≤ toBits binary32 (inf true)
 unfolding toBits
 infinity-not-below = lit≤ tt
 
-pub clear-by-bits : (x : Float) → T (fits binary32 x) → isNan x ≡ false → clear x ≡ ltb (toBits binary32 x) 0x8000_0000
+pub clear-by-bits : (x : Float) → T (fits binary32 x) → isNan x ≡ false → clear x ≡ ltb (toBits binary32 x) signBit
 unfolding isNan
 clear-by-bits nan p k = absurd (true≢false k)
-clear-by-bits (inf true) p k = sym (le-ltb (toBits binary32 (inf true)) 0x8000_0000 infinity-not-below)
+clear-by-bits (inf true) p k = sym (le-ltb (toBits binary32 (inf true)) signBit infinity-not-below)
 clear-by-bits (inf false) p k = clear-below (inf false) p refl
 clear-by-bits (fin true m e) p k =
-    sym (le-ltb (toBits binary32 (fin true m e)) 0x8000_0000 (le-trans (le-add-right 0x8000_0000 (pattern binary32 (grains binary32 m e))) (le-of-eq (sym (bits-of-grains binary32 true m e)))))
+    sym (le-ltb (toBits binary32 (fin true m e)) signBit (le-trans (le-add-right signBit (pattern binary32 (grains binary32 m e))) (le-of-eq (sym (bits-of-grains binary32 true m e)))))
 clear-by-bits (fin false m e) p k = clear-below (fin false m e) p refl
 
 pub finite-of-le : (x y : Float) → clear x ≡ true → T (finite y) → le x y ≡ true → T (finite x)

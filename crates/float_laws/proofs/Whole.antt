@@ -23,7 +23,7 @@ use Rattle.laws.specs.Lists.{All}
 use Rattle.laws.specs.Sums.{sum as total}
 use Rattle.float_laws.specs.Whole.{whole, WholeSize, number, wholeSum}
 use Rattle.float_laws.proofs.Order.{le-cross}
-use Rattle.float_laws.specs.Numbers.{minusZero}
+use Rattle.float_laws.specs.Numbers.{mostTracks, minusZero}
 
 -- ---- two whole numbers
 
@@ -132,11 +132,11 @@ numbers-of-sizes (x ∷ xs) h =
     (λ i. a .0 i ∷ r .0 i, (a .1, r .1))
 
 -- 256 * 65,535 is below 2 ^ 24
-whole-sum-le : (xs : List Float) → length xs ≤ 256 → All WholeSize xs → wholeSum xs ≤ 2 ^ 24
+whole-sum-le : (xs : List Float) → length xs ≤ mostTracks → All WholeSize xs → wholeSum xs ≤ 2 ^ 24
 whole-sum-le xs l h =
     le-trans (total-le 65535 (map number xs) (numbers-of-sizes xs h .1)) (rw length-map (most (length xs) l))
   where
-    most : (n : ℕ) → n ≤ 256 → 65535 * n ≤ 2 ^ 24
+    most : (n : ℕ) → n ≤ mostTracks → 65535 * n ≤ 2 ^ 24
     most n h = omega arith
 
 -- ---- the laws
@@ -148,12 +148,12 @@ size-exact x h =
     let a = number-of-size x h in
     subst (λ (z : Float). HasValue z false (number x) 1) (a .0) (round-whole binary32 false (number x) (le-trans (a .1) (lit≤ tt)))
 
-sum-of-sizes : (x : Float) (xs : List Float) → length (x ∷ xs) ≤ 256 → All WholeSize (x ∷ xs) → sumOf (x ∷ xs) ≡ whole (wholeSum (x ∷ xs))
+sum-of-sizes : (x : Float) (xs : List Float) → length (x ∷ xs) ≤ mostTracks → All WholeSize (x ∷ xs) → sumOf (x ∷ xs) ≡ whole (wholeSum (x ∷ xs))
 sum-of-sizes x xs l h =
     ap sumOf (sym (numbers-of-sizes (x ∷ xs) h .0)) ∙ sum-of-whole (number x) (map number xs) (whole-sum-le (x ∷ xs) l h)
 
 -- one size at least, and 256 at most: the f32 sum is exactly the whole-number sum
-pub sum-of-sizes-exact : (x : Float) (xs : List Float) → length (x ∷ xs) ≤ 256 → All WholeSize (x ∷ xs) → HasValue (sumOf (x ∷ xs)) false (wholeSum (x ∷ xs)) 1
+pub sum-of-sizes-exact : (x : Float) (xs : List Float) → length (x ∷ xs) ≤ mostTracks → All WholeSize (x ∷ xs) → HasValue (sumOf (x ∷ xs)) false (wholeSum (x ∷ xs)) 1
 unfolding ofInt
 sum-of-sizes-exact x xs l h =
     subst (λ (z : Float). HasValue z false (wholeSum (x ∷ xs)) 1) (sym (sum-of-sizes x xs l h)) (round-whole binary32 false (wholeSum (x ∷ xs)) (whole-sum-le (x ∷ xs) l h))

@@ -1,7 +1,8 @@
--- Which floats are f32, and the numbers that the routines name, each by its bit pattern, and beside it the number it stands for: a decimal is
--- the nearest f32. Assumes nothing.
+-- Which floats are f32, the most tracks of a call, and the numbers that the routines name, each by its bit pattern, and beside it the number it
+-- stands for: a decimal is the nearest f32. Assumes nothing.
 use mathlib.Core.Path.{_≡_, refl}
 use mathlib.Core.Bool.{true, false}
+use Prim.Native.Nat.{ℕ}
 use lib.IntN.{pos}
 use lib.Dec.{T}
 use lib.Ieee.{Float, fin, inf, neg, ofBits, ofInt, round, binary32, fits}
@@ -9,6 +10,13 @@ use lib.Ieee.{Float, fin, inf, neg, ofBits, ofInt, round, binary32, fits}
 -- x is an f32, as every float that a program holds as one is
 abbrev pub IsF32 : Float → Type 0
 IsF32 x = T (fits binary32 x)
+
+abbrev pub mostTracks : ℕ
+mostTracks = 256
+
+-- what the pattern of an f32 with a set sign bit is not below
+abbrev pub signBit : ℕ
+signBit = 0x8000_0000
 
 abbrev pub zero32 : Float
 zero32 = ofBits binary32 0

@@ -8,12 +8,12 @@ use lib.ListN.{length, length-map}
 use lib.Ieee.{Float}
 use lib.Ieee.Exact.{HasValue}
 use Rattle.laws.specs.Lists.{All}
-use Rattle.float_laws.specs.Numbers.{minusZero}
+use Rattle.float_laws.specs.Numbers.{minusZero, mostTracks}
 use Rattle.float_laws.specs.Whole.{WholeSize, wholeSum}
 use Rattle.float_laws.proofs.Whole.{sum-of-sizes-exact}
 use Rattle.float_track.specs.Track.{baseSize, usedSpace}
 
-pub used-space-exact : (row : List Float) (rows : List (List Float)) → length (row ∷ rows) ≤ 256 → All WholeSize (map baseSize (row ∷ rows))
+pub used-space-exact : (row : List Float) (rows : List (List Float)) → length (row ∷ rows) ≤ mostTracks → All WholeSize (map baseSize (row ∷ rows))
     → HasValue (usedSpace (row ∷ rows)) false (wholeSum (map baseSize (row ∷ rows))) 1
 used-space-exact row rows few sizes =
     sum-of-sizes-exact (baseSize row) (map baseSize rows) (rw length-map few) sizes

@@ -2,11 +2,14 @@
 //
 // The lent store holds a track as a row of five floats, in the record's order; the infinitely growable mark stands beside
 // a row, since no routine over rows reads or writes it.
+mod bits;
 mod least;
 mod space;
 mod track;
 mod used;
 
+pub use bits::INFINITY_BITS;
+pub use bits::SIGN_BIT;
 pub use least::f32_max;
 pub use least::f32_min;
 pub use space::AvailableSpace;

@@ -1,4 +1,5 @@
 // Available space and sizes that may be absent, and the free space that each leaves.
+use crate::bits::INFINITY_BITS;
 ghost use mathlib.Core.Path.{_≡_};
 ghost use Rattle.float_track.specs.Space.{freeSpace, leftOf, stretchSpace};
 
@@ -19,7 +20,7 @@ impl AvailableSpace {
         ensures { λ r. ⌜ r ≡ freeSpace self used ⌝ }
     {
         match self {
-            AvailableSpace::MaxContent => f32::from_bits(0x7f80_0000),
+            AvailableSpace::MaxContent => f32::from_bits(INFINITY_BITS),
             AvailableSpace::MinContent => 0.0,
             AvailableSpace::Definite(space) => space - used,
         }

@@ -1,4 +1,5 @@
 // The track record, and the two flushes of its planned increases.
+use crate::bits::INFINITY_BITS;
 ghost use mathlib.Core.Path.{_≡_};
 ghost use Rattle.float_track.specs.Track.{trackOf, rowOf, flushBase, flushLimit};
 
@@ -58,7 +59,7 @@ impl Track {
     {
         if self.growth_limit_planned_increase > 0.0 {
             // An infinite limit starts anew from the base size.
-            if self.growth_limit == f32::from_bits(0x7f80_0000) {
+            if self.growth_limit == f32::from_bits(INFINITY_BITS) {
                 self.growth_limit = self.base_size + self.growth_limit_planned_increase;
             } else {
                 self.growth_limit = self.growth_limit + self.growth_limit_planned_increase;

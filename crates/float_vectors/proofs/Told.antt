@@ -4,8 +4,8 @@ use mathlib.Core.Path.{_≡_}
 use mathlib.Core.Bool.{Bool, true, false}
 use mathlib.Core.List.{List}
 use Rattle.cases.specs.declared.wanted.Wanted.{Wanted}
-use Rattle.domain.specs.declared.refusal.Refusal.{Refusal}
-use Rattle.domain.specs.Answer.{numberOf, placeOf}
+use Rattle.float_domain.specs.declared.refusal.Refusal.{Refusal}
+use Rattle.float_domain.specs.Answer.{numberOf, placeOf}
 use Rattle.floats.specs.Answer.{refusalTold}
 use Rattle.float_vectors.specs.Wanted.{ToldBits, flushed, refused, toldBits, toldAs, leftAs}
 

@@ -8,8 +8,8 @@ use Rattle.float_track.specs.declared.space.AvailableSpace.{AvailableSpace}
 use Rattle.float_track.specs.declared.space.AvailableSpace.the-variants.{Definite, MinContent, MaxContent}
 use Rattle.float_track.specs.declared.space.OptionalSize.{OptionalSize}
 use Rattle.float_track.specs.declared.space.OptionalSize.the-variants.{Given, Absent}
-use Rattle.gutters.specs.declared.AlignContent.{AlignContent}
-use Rattle.gutters.specs.declared.AlignContent.the-variants.{Normal, Start, End, FlexStart, FlexEnd, Center, Stretch, SpaceBetween, SpaceEvenly, SpaceAround}
+use Rattle.float_gutters.specs.declared.AlignContent.{AlignContent}
+use Rattle.float_gutters.specs.declared.AlignContent.the-variants.{Normal, Start, End, FlexStart, FlexEnd, Center, Stretch, SpaceBetween, SpaceEvenly, SpaceAround}
 
 abbrev pub sizeAs : Bool → Float → OptionalSize
 sizeAs true size = Given size

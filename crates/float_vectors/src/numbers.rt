@@ -10,6 +10,8 @@ use cases::Cursor;
 use cases::List;
 use cases::read_length;
 use cases::read_number;
+use float_track::INFINITY_BITS;
+use float_track::SIGN_BIT;
 
 pub struct Float {
     pub value: f32,
@@ -20,7 +22,7 @@ pub struct Float {
 fn float_of(bits: u32) -> f32
     ensures { λ r. ⌜ r ≡ ofBits binary32 bits ⌝ }
 {
-    if bits % 0x8000_0000 > 0x7f80_0000 {
+    if bits % SIGN_BIT > INFINITY_BITS {
         let zero: f32 = 0.0;
         return zero / zero;
     }

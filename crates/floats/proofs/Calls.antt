@@ -2,31 +2,31 @@
 use mathlib.Core.Path.{_≡_, refl, sym, _∙_, ap}
 use mathlib.Core.List.{List}
 use lib.Ieee.{Float}
-use Rattle.domain.specs.declared.refusal.Refusal.{Refusal}
-use Rattle.domain.specs.declared.refusal.Fault.{Fault}
-use Rattle.domain.specs.declared.refusal.Fault.the-variants.{Fine, Found}
-use Rattle.domain.specs.Domain.{Finding, fine}
-use Rattle.domain.specs.Answer.{findingOf}
+use Rattle.laws.specs.Faults.{Fault, fine}
+use Rattle.float_domain.specs.declared.refusal.Refusal.{Refusal}
+use Rattle.float_domain.specs.declared.refusal.Fault as found
+use Rattle.float_domain.specs.declared.refusal.Fault.the-variants.{Fine, Found}
+use Rattle.float_domain.specs.Answer.{faultOf}
 use Rattle.floats.specs.Rule.{Told, toldOr, Outcome, outcome, outcomeOr}
 use Rattle.floats.specs.Answer.{refusalTold}
 
-module _ (fault : Fault) (finding : Finding) (is : findingOf fault ≡ finding) where
-  pub finding-of-found : (refusal : Refusal) → fault ≡ Found refusal → finding ≡ findingOf (Found refusal)
-  finding-of-found refusal found = sym is ∙ ap findingOf found
+module _ (looked : found.Fault) (f : Fault) (is : faultOf looked ≡ f) where
+  pub fault-of-found : (refusal : Refusal) → looked ≡ Found refusal → f ≡ faultOf (Found refusal)
+  fault-of-found refusal e = sym is ∙ ap faultOf e
 
-  pub finding-of-fine : fault ≡ Fine → finding ≡ fine
-  finding-of-fine none = sym is ∙ ap findingOf none
+  pub fault-of-fine : looked ≡ Fine → f ≡ fine
+  fault-of-fine none = sym is ∙ ap faultOf none
 
-module _ (fault : Fault) (finding : Finding) (is : findingOf fault ≡ finding) (answer : Told) where
-  pub told-refused : (refusal : Refusal) → fault ≡ Found refusal → refusalTold refusal ≡ toldOr finding answer
-  told-refused refusal found = rw (finding-of-found fault finding is refusal found) refl
+module _ (looked : found.Fault) (f : Fault) (is : faultOf looked ≡ f) (answer : Told) where
+  pub told-refused : (refusal : Refusal) → looked ≡ Found refusal → refusalTold refusal ≡ toldOr f answer
+  told-refused refusal e = rw (fault-of-found looked f is refusal e) refl
 
-  pub told-answer : fault ≡ Fine → answer ≡ toldOr finding answer
-  told-answer none = rw (finding-of-fine fault finding is none) refl
+  pub told-answer : looked ≡ Fine → answer ≡ toldOr f answer
+  told-answer none = rw (fault-of-fine looked f is none) refl
 
-module _ (fault : Fault) (finding : Finding) (is : findingOf fault ≡ finding) (rows : List (List Float)) (after : Outcome) where
-  pub outcome-refused : (refusal : Refusal) → fault ≡ Found refusal → outcome (refusalTold refusal) rows ≡ outcomeOr finding rows after
-  outcome-refused refusal found = rw (finding-of-found fault finding is refusal found) refl
+module _ (looked : found.Fault) (f : Fault) (is : faultOf looked ≡ f) (rows : List (List Float)) (after : Outcome) where
+  pub outcome-refused : (refusal : Refusal) → looked ≡ Found refusal → outcome (refusalTold refusal) rows ≡ outcomeOr f rows after
+  outcome-refused refusal e = rw (fault-of-found looked f is refusal e) refl
 
-  pub outcome-answer : fault ≡ Fine → after ≡ outcomeOr finding rows after
-  outcome-answer none = rw (finding-of-fine fault finding is none) refl
+  pub outcome-answer : looked ≡ Fine → after ≡ outcomeOr f rows after
+  outcome-answer none = rw (fault-of-fine looked f is none) refl

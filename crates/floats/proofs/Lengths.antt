@@ -7,18 +7,18 @@ use Prim.Native.Nat.{ℕ, zero, suc, _≤_}
 use native.Mathlib.Omega.{arith}
 use lib.ListN.{length}
 use lib.Ieee.{Float}
-use Rattle.domain.specs.declared.kind.Kind.the-variants.{Size}
-use Rattle.domain.specs.Domain as Domain
-use Rattle.domain.specs.Domain.{lengthsFit, lengthsFinding, fine, first, unless, numbersOf, outsideFrom}
-use Rattle.domain.proofs.Outside.{first-fine, lengths-fit-head, lengths-fit-le}
+use Rattle.laws.specs.Faults.{fine, fault, first, unless, fine-both, fine-test}
+use Rattle.float_domain.specs.declared.kind.Kind.the-variants.{Size}
+use Rattle.float_domain.specs.Domain.{lengthsFit, lengthsFault, numbersOf, outsideFrom}
+use Rattle.float_domain.proofs.Outside.{lengths-fit-head, lengths-fit-le}
 use Rattle.float_track.specs.declared.space.OptionalSize.{OptionalSize}
-use Rattle.distribution.specs.Distribution.{OneLength}
-use Rattle.fr_size.specs.Fr.{FrLengths}
-use Rattle.gutters.specs.Gutters.{GutterCount}
-use Rattle.maximise.specs.Maximise.{MaximiseLengths}
-use Rattle.stretch.specs.Stretch.{StretchLengths}
-use Rattle.floats.proofs.Fine.{passed-of-fine, lengths-of-fine}
-use Rattle.floats.specs.Rule.{sizeNumber, isGutterCount, gutterFinding}
+use Rattle.float_distribution.specs.Distribution.{OneLength}
+use Rattle.float_fr_size.specs.Fr.{FrLengths}
+use Rattle.float_gutters.specs.Gutters.{GutterCount}
+use Rattle.float_maximise.specs.Maximise.{MaximiseLengths}
+use Rattle.float_stretch.specs.Stretch.{StretchLengths}
+use Rattle.floats.proofs.Fine.{lengths-of-fine}
+use Rattle.floats.specs.Rule.{sizeNumber, isGutterCount, gutterFault}
 
 pub one-length : (fs : List Bool) (ps ss ls : List Float) (n : ℕ) → lengthsFit n (length fs ∷ length ps ∷ length ss ∷ length ls ∷ []) ≡ true → OneLength fs ps ss ls n
 one-length fs ps ss ls n fit =
@@ -48,12 +48,12 @@ counted (suc zero) h = inl (omega arith)
 counted (suc (suc zero)) h = absurd (true≢false (sym h))
 counted (suc (suc (suc n))) h = inr (omega arith)
 
-pub gutter-count : (inner : OptionalSize) (known : List Bool) (estimates : List Float) → gutterFinding inner known estimates ≡ fine → GutterCount (length known)
+pub gutter-count : (inner : OptionalSize) (known : List Bool) (estimates : List Float) → gutterFault inner known estimates ≡ fine → GutterCount (length known)
 gutter-count inner known estimates h =
     let rest = outsideFrom 0 (sizeNumber inner ∷ numbersOf Size estimates) in
-    let count = unless (isGutterCount (length known)) (Domain.refused 14 0) in
-    let lengths = lengthsFinding (length known) (length estimates ∷ []) in
+    let count = unless (isGutterCount (length known)) (fault 14 0) in
+    let lengths = lengthsFault (length known) (length estimates ∷ []) in
     record {
-      enough = counted (length known) (passed-of-fine (isGutterCount (length known)) 14 0 (first-fine count rest (first-fine lengths (first count rest) h .1) .0));
+      enough = counted (length known) (fine-test (isGutterCount (length known)) 14 0 (fine-both count rest (fine-both lengths (first count rest) h .1) .0));
       few = lengths-fit-le (length known) (length estimates ∷ []) (lengths-of-fine (length known) (length estimates ∷ []) (first count rest) h);
     }

@@ -1,4 +1,4 @@
--- A call that is not refused meets what the theorems of agreement ask, its floats being f32, which their types say; so each call is the one with
+-- A call that is not refused meets what the theorems of float_agreement ask, its floats being f32, which their types say; so each call is the one with
 -- Rust's own minimum and maximum. Assumes nothing.
 use mathlib.Core.Path.{_≡_, refl, sym, ap}
 use mathlib.Core.Bool.{Bool}
@@ -8,31 +8,31 @@ use lib.ListN.{length, getD}
 use lib.Ieee.{Float, nan, fits}
 use Rattle.laws.specs.Lists.{All}
 use Rattle.laws.specs.Alls.{all-append-left, all-append-right}
+use Rattle.laws.specs.Faults.{Fault, fine, fault, first, unless, fine-both}
 use Rattle.float_laws.specs.Numbers.{IsF32}
-use Rattle.domain.specs.declared.kind.Kind.{Kind}
-use Rattle.domain.specs.declared.kind.Kind.the-variants.{Size, Limit, Factor, Proportion}
-use Rattle.domain.specs.Domain as Domain
-use Rattle.domain.specs.Domain.{Number, given, numbersOf, trackNumbers, tracksNumbers, Finding, fine, first, unless, lengthsFinding, outsideFrom}
-use Rattle.domain.proofs.F32.{SizeF32, SpaceF32}
-use Rattle.domain.proofs.Outside.{IsAccepted, accepted-of-fine, first-fine, lengths-fit-head}
+use Rattle.float_domain.specs.declared.kind.Kind.{Kind}
+use Rattle.float_domain.specs.declared.kind.Kind.the-variants.{Size, Limit, Factor, Proportion}
+use Rattle.float_domain.specs.Domain.{Number, given, numbersOf, trackNumbers, tracksNumbers, lengthsFault, outsideFrom}
+use Rattle.float_domain.proofs.F32.{SizeF32, SpaceF32}
+use Rattle.float_domain.proofs.Outside.{IsAccepted, accepted-of-fine, lengths-fit-head}
 use Rattle.float_track.specs.declared.track.Track.{Track}
 use Rattle.float_track.specs.declared.space.AvailableSpace.{AvailableSpace}
 use Rattle.float_track.specs.declared.space.AvailableSpace.the-variants.{Definite, MinContent, MaxContent}
 use Rattle.float_track.specs.declared.space.OptionalSize.{OptionalSize}
 use Rattle.float_track.specs.declared.space.OptionalSize.the-variants.{Given, Absent}
 use Rattle.float_track.specs.Track.{rowOf}
-use Rattle.gutters.specs.declared.AlignContent.{AlignContent}
-use Rattle.gutters.specs.Gutters.{gutterAdjustment}
-use Rattle.distribution.specs.Distribution.{lists, left, passes}
-use Rattle.fr_size.specs.Fr.{frSize}
-use Rattle.maximise.specs.Maximise.{maximised}
-use Rattle.agreement.specs.Inputs.{IsOf, TrackInputs, SizeInput, SpaceInput, FrInputs, GutterInputs, DistributionInputs, MaximiseInputs, StretchInputs}
-use Rattle.agreement.specs.Rust.{IsRustMin, IsRustMax, rustGutterAdjustment, rustPasses, rustFrSize, rustMaximised}
-use Rattle.agreement.proofs.FrSize.{fr-size-agrees}
-use Rattle.agreement.proofs.Gutter.{gutter-adjustment-agrees}
-use Rattle.agreement.proofs.Distribution.{passes-agree}
-use Rattle.agreement.proofs.Maximised.{maximised-agrees}
-use Rattle.floats.specs.Rule.{Told, number, sized, toldOr, Outcome, outcome, outcomeOr, sizeNumber, spaceNumber, flushFinding, isGutterCount, gutterFinding, gutterCall, distributionNumbers, distributionFinding, leftOutcome, distributionCall, frFinding, frCall, maximiseFinding, maximiseCall, stretchFinding}
+use Rattle.float_gutters.specs.declared.AlignContent.{AlignContent}
+use Rattle.float_gutters.specs.Gutters.{gutterAdjustment}
+use Rattle.float_distribution.specs.Distribution.{lists, left, passes}
+use Rattle.float_fr_size.specs.Fr.{frSize}
+use Rattle.float_maximise.specs.Maximise.{maximised}
+use Rattle.float_agreement.specs.Inputs.{IsOf, TrackInputs, SizeInput, SpaceInput, FrInputs, GutterInputs, DistributionInputs, MaximiseInputs, StretchInputs}
+use Rattle.float_agreement.specs.Rust.{IsRustMin, IsRustMax, rustGutterAdjustment, rustPasses, rustFrSize, rustMaximised}
+use Rattle.float_agreement.proofs.FrSize.{fr-size-agrees}
+use Rattle.float_agreement.proofs.Gutter.{gutter-adjustment-agrees}
+use Rattle.float_agreement.proofs.Distribution.{passes-agree}
+use Rattle.float_agreement.proofs.Maximised.{maximised-agrees}
+use Rattle.floats.specs.Rule.{Told, number, sized, toldOr, Outcome, outcome, outcomeOr, sizeNumber, spaceNumber, flushFault, isGutterCount, gutterFault, gutterCall, distributionNumbers, distributionFault, leftOutcome, distributionCall, frFault, frCall, maximiseFault, maximiseCall, stretchFault}
 use Rattle.floats.specs.Rust.{rustGutterCall, rustFrCall, rustDistributionCall, rustMaximiseCall}
 use Rattle.floats.proofs.Fine.{lengths-of-fine}
 use Rattle.floats.proofs.Lengths.{one-length, fr-lengths, maximise-lengths, stretch-lengths}
@@ -78,8 +78,8 @@ space-input MinContent f a = tt
 space-input MaxContent f a = tt
 
 -- the tests behind that of the lengths
-rest-of-fine : (n : ℕ) (ms : List ℕ) (rest : Finding) → first (lengthsFinding n ms) rest ≡ fine → rest ≡ fine
-rest-of-fine n ms rest h = first-fine (lengthsFinding n ms) rest h .1
+rest-of-fine : (n : ℕ) (ms : List ℕ) (rest : Fault) → first (lengthsFault n ms) rest ≡ fine → rest ≡ fine
+rest-of-fine n ms rest h = fine-both (lengthsFault n ms) rest h .1
 
 -- a first number, a run of numbers, and those behind it
 head-of : (n : Number) (ns : List Number) → All IsAccepted (n ∷ ns) → IsAccepted n × All IsAccepted ns
@@ -91,16 +91,16 @@ both-of ms ns a = (all-append-left IsAccepted ms ns a, all-append-right IsAccept
 
 -- ---- a call that is not refused meets the inputs
 
-pub flush-inputs : (t : Track) → All IsF32 (rowOf t) → flushFinding t ≡ fine → TrackInputs (rowOf t)
+pub flush-inputs : (t : Track) → All IsF32 (rowOf t) → flushFault t ≡ fine → TrackInputs (rowOf t)
 flush-inputs t f h = track-inputs (rowOf t) f (accepted-of-fine 0 (trackNumbers (rowOf t)) h)
 
 pub gutter-inputs : (inner : OptionalSize) (known : List Bool) (estimates : List Float) → SizeF32 inner → All IsF32 estimates
-    → gutterFinding inner known estimates ≡ fine → GutterInputs inner known estimates
+    → gutterFault inner known estimates ≡ fine → GutterInputs inner known estimates
 gutter-inputs inner known estimates f fs h =
     let numbers = outsideFrom 0 (sizeNumber inner ∷ numbersOf Size estimates) in
-    let count = unless (isGutterCount (length known)) (Domain.refused 14 0) in
+    let count = unless (isGutterCount (length known)) (fault 14 0) in
     let ms = length estimates ∷ [] in
-    let a = head-of (sizeNumber inner) (numbersOf Size estimates) (accepted-of-fine 0 (sizeNumber inner ∷ numbersOf Size estimates) (first-fine count numbers (rest-of-fine (length known) ms (first count numbers) h) .1)) in
+    let a = head-of (sizeNumber inner) (numbersOf Size estimates) (accepted-of-fine 0 (sizeNumber inner ∷ numbersOf Size estimates) (fine-both count numbers (rest-of-fine (length known) ms (first count numbers) h) .1)) in
     record {
       estimates-length = lengths-fit-head (length known) (length estimates) [] (lengths-of-fine (length known) ms (first count numbers) h) .0;
       inner-size = size-input inner f (a .0);
@@ -109,7 +109,7 @@ gutter-inputs inner known estimates f fs h =
 
 pub distribution-inputs : (space : Float) (rows : List (List Float)) (affected : List Bool) (proportions sizes limits : List Float)
     → IsF32 space → All (All IsF32) rows → All IsF32 proportions → All IsF32 sizes → All IsF32 limits
-    → distributionFinding space rows affected proportions sizes limits ≡ fine → DistributionInputs space rows affected proportions sizes limits
+    → distributionFault space rows affected proportions sizes limits ≡ fine → DistributionInputs space rows affected proportions sizes limits
 distribution-inputs space rows affected proportions sizes limits f frows fproportions fsizes flimits h =
     let numbers = distributionNumbers space rows proportions sizes limits in
     let ms = length affected ∷ length proportions ∷ length sizes ∷ length limits ∷ [] in
@@ -129,7 +129,7 @@ distribution-inputs space rows affected proportions sizes limits f frows fpropor
     }
 
 pub fr-inputs : (rows : List (List Float)) (flexible : List Bool) (factors : List Float) (space : Float) → All (All IsF32) rows → All IsF32 factors → IsF32 space
-    → frFinding rows flexible factors space ≡ fine → FrInputs rows flexible factors space
+    → frFault rows flexible factors space ≡ fine → FrInputs rows flexible factors space
 fr-inputs rows flexible factors space frows ffactors f h =
     let behind = tracksNumbers rows ++ numbersOf Factor factors in
     let ms = length flexible ∷ length factors ∷ [] in
@@ -146,7 +146,7 @@ fr-inputs rows flexible factors space frows ffactors f h =
     }
 
 pub maximise-inputs : (rows : List (List Float)) (limits : List Float) (space : AvailableSpace) → All (All IsF32) rows → All IsF32 limits
-    → maximiseFinding rows limits space ≡ fine → MaximiseInputs rows limits
+    → maximiseFault rows limits space ≡ fine → MaximiseInputs rows limits
 maximise-inputs rows limits space frows flimits h =
     let behind = tracksNumbers rows ++ numbersOf Limit limits in
     let ms = length limits ∷ [] in
@@ -160,7 +160,7 @@ maximise-inputs rows limits space frows flimits h =
     }
 
 pub stretch-inputs : (rows : List (List Float)) (autos : List Bool) (minimum : OptionalSize) (space : AvailableSpace) → All (All IsF32) rows → SizeF32 minimum → SpaceF32 space
-    → stretchFinding rows autos minimum space ≡ fine → StretchInputs rows autos minimum space
+    → stretchFault rows autos minimum space ≡ fine → StretchInputs rows autos minimum space
 stretch-inputs rows autos minimum space frows fminimum fspace h =
     let behind = spaceNumber space ∷ tracksNumbers rows in
     let ms = length autos ∷ [] in
@@ -176,43 +176,43 @@ stretch-inputs rows autos minimum space frows fminimum fspace h =
 
 -- ---- the calls are those with Rust's own minimum and maximum, where a call that is not refused meets the inputs
 
-told-agrees : (finding : Finding) (a b : Told) → (finding ≡ fine → a ≡ b) → toldOr finding a ≡ toldOr finding b
+told-agrees : (f : Fault) (a b : Told) → (f ≡ fine → a ≡ b) → toldOr f a ≡ toldOr f b
 told-agrees fine a b h = h refl
-told-agrees (Domain.refused n place) a b h = refl
+told-agrees (fault n place) a b h = refl
 
-outcome-agrees : (finding : Finding) (rows : List (List Float)) (a b : Outcome) → (finding ≡ fine → a ≡ b) → outcomeOr finding rows a ≡ outcomeOr finding rows b
+outcome-agrees : (f : Fault) (rows : List (List Float)) (a b : Outcome) → (f ≡ fine → a ≡ b) → outcomeOr f rows a ≡ outcomeOr f rows b
 outcome-agrees fine rows a b h = h refl
-outcome-agrees (Domain.refused n place) rows a b h = refl
+outcome-agrees (fault n place) rows a b h = refl
 
 module _ (rustMax : Float → Float → Float) (keeps : IsRustMax rustMax) where
   pub gutter-call-agrees : (alignment : AlignContent) (inner : OptionalSize) (known : List Bool) (estimates : List Float)
-      → (gutterFinding inner known estimates ≡ fine → GutterInputs inner known estimates)
+      → (gutterFault inner known estimates ≡ fine → GutterInputs inner known estimates)
       → gutterCall alignment inner known estimates ≡ rustGutterCall rustMax alignment inner known estimates
   gutter-call-agrees alignment inner known estimates inputs =
-      told-agrees (gutterFinding inner known estimates) (number (gutterAdjustment alignment inner known estimates)) (number (rustGutterAdjustment rustMax alignment inner known estimates))
-      (λ (h : gutterFinding inner known estimates ≡ fine). ap number (sym (gutter-adjustment-agrees rustMax keeps alignment inner known estimates (inputs h))))
+      told-agrees (gutterFault inner known estimates) (number (gutterAdjustment alignment inner known estimates)) (number (rustGutterAdjustment rustMax alignment inner known estimates))
+      (λ (h : gutterFault inner known estimates ≡ fine). ap number (sym (gutter-adjustment-agrees rustMax keeps alignment inner known estimates (inputs h))))
 
   pub fr-call-agrees : (rows : List (List Float)) (flexible : List Bool) (factors : List Float) (space : Float)
-      → (frFinding rows flexible factors space ≡ fine → FrInputs rows flexible factors space)
+      → (frFault rows flexible factors space ≡ fine → FrInputs rows flexible factors space)
       → frCall rows flexible factors space ≡ rustFrCall rustMax rows flexible factors space
   fr-call-agrees rows flexible factors space inputs =
-      told-agrees (frFinding rows flexible factors space) (number (frSize rows flexible factors space)) (number (rustFrSize rustMax rows flexible factors space))
-      (λ (h : frFinding rows flexible factors space ≡ fine). ap number (sym (fr-size-agrees rustMax keeps rows flexible factors space (inputs h))))
+      told-agrees (frFault rows flexible factors space) (number (frSize rows flexible factors space)) (number (rustFrSize rustMax rows flexible factors space))
+      (λ (h : frFault rows flexible factors space ≡ fine). ap number (sym (fr-size-agrees rustMax keeps rows flexible factors space (inputs h))))
 
 module _ (rustMin : Float → Float → Float) (keeps : IsRustMin rustMin) where
   pub distribution-call-agrees : (space : Float) (rows : List (List Float)) (affected : List Bool) (proportions sizes limits : List Float)
-      → (distributionFinding space rows affected proportions sizes limits ≡ fine → DistributionInputs space rows affected proportions sizes limits)
+      → (distributionFault space rows affected proportions sizes limits ≡ fine → DistributionInputs space rows affected proportions sizes limits)
       → distributionCall space rows affected proportions sizes limits ≡ rustDistributionCall rustMin space rows affected proportions sizes limits
   distribution-call-agrees space rows affected proportions sizes limits inputs =
       let parts = lists affected proportions sizes limits in
-      outcome-agrees (distributionFinding space rows affected proportions sizes limits) rows
+      outcome-agrees (distributionFault space rows affected proportions sizes limits) rows
       (leftOutcome (passes parts (length rows + 1) (left space rows))) (leftOutcome (rustPasses rustMin parts (length rows + 1) (left space rows)))
-      (λ (h : distributionFinding space rows affected proportions sizes limits ≡ fine).
+      (λ (h : distributionFault space rows affected proportions sizes limits ≡ fine).
       ap leftOutcome (sym (passes-agree rustMin keeps space rows affected proportions sizes limits (inputs h) (length rows + 1))))
 
   pub maximise-call-agrees : (rows : List (List Float)) (limits : List Float) (space : AvailableSpace)
-      → (maximiseFinding rows limits space ≡ fine → MaximiseInputs rows limits)
+      → (maximiseFault rows limits space ≡ fine → MaximiseInputs rows limits)
       → maximiseCall rows limits space ≡ rustMaximiseCall rustMin rows limits space
   maximise-call-agrees rows limits space inputs =
-      outcome-agrees (maximiseFinding rows limits space) rows (outcome sized (maximised space limits rows)) (outcome sized (rustMaximised rustMin space limits rows))
-      (λ (h : maximiseFinding rows limits space ≡ fine). ap (outcome sized) (sym (maximised-agrees rustMin keeps space rows limits (inputs h))))
+      outcome-agrees (maximiseFault rows limits space) rows (outcome sized (maximised space limits rows)) (outcome sized (rustMaximised rustMin space limits rows))
+      (λ (h : maximiseFault rows limits space ≡ fine). ap (outcome sized) (sym (maximised-agrees rustMin keeps space rows limits (inputs h))))

@@ -1,12 +1,11 @@
 -- Two answers that tell the same are the same. Assumes nothing.
 use mathlib.Core.Path.{_≡_, refl, sym, ap, subst}
 use lib.Ieee.{Float}
-use Rattle.domain.specs.declared.refusal.Refusal.{Refusal}
-use Rattle.domain.specs.declared.refusal.Fault.{Fault}
-use Rattle.domain.specs.declared.refusal.Fault.the-variants.{Fine, Found}
-use Rattle.domain.specs.Domain as Domain
-use Rattle.domain.specs.Domain.{Finding}
-use Rattle.domain.proofs.Outside.{fault-of-finding}
+use Rattle.laws.specs.Faults.{Fault, fine, fault}
+use Rattle.float_domain.specs.declared.refusal.Refusal.{Refusal}
+use Rattle.float_domain.specs.declared.refusal.Fault as found
+use Rattle.float_domain.specs.declared.refusal.Fault.the-variants.{Fine, Found}
+use Rattle.float_domain.proofs.Outside.{found-of-fault}
 use Rattle.float_track.specs.declared.track.Track.{Track}
 use Rattle.floats.specs.Rule.{Told, number, sized, flushed, refused}
 use Rattle.floats.specs.Answer.{refusalTold, numberTold, tracksTold, flushTold}
@@ -24,19 +23,19 @@ isRefused sized = ⊥
 isRefused (flushed t) = ⊥
 isRefused (refused n place) = Unit {0}
 
-abbrev findingIn : Told → Finding
-findingIn (number x) = Domain.fine
-findingIn sized = Domain.fine
-findingIn (flushed t) = Domain.fine
-findingIn (refused n place) = Domain.refused n place
+abbrev faultIn : Told → Fault
+faultIn (number x) = fine
+faultIn sized = fine
+faultIn (flushed t) = fine
+faultIn (refused n place) = fault n place
 
-abbrev refusalIn : Refusal → Fault → Refusal
+abbrev refusalIn : Refusal → found.Fault → Refusal
 refusalIn r Fine = r
 refusalIn r (Found s) = s
 
 -- a refusal is known by its number and place
 pub refusal-of-told : (r s : Refusal) → refusalTold r ≡ refusalTold s → r ≡ s
-refusal-of-told r s e = ap (refusalIn r) (fault-of-finding (Found r) (Found s) (ap findingIn e))
+refusal-of-told r s e = ap (refusalIn r) (found-of-fault (Found r) (Found s) (ap faultIn e))
 
 abbrev numberIn : Float → Told → Float
 numberIn d (number x) = x

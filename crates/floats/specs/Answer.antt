@@ -1,6 +1,6 @@
 -- The code's answers in the words of the rule. Assumes nothing.
-use Rattle.domain.specs.declared.refusal.Refusal.{Refusal}
-use Rattle.domain.specs.Answer.{numberOf, placeOf}
+use Rattle.float_domain.specs.declared.refusal.Refusal.{Refusal}
+use Rattle.float_domain.specs.Answer.{numberOf, placeOf}
 use Rattle.floats.specs.Rule.{Told, number, sized, flushed, refused}
 use Rattle.floats.specs.declared.answer.NumberAnswer.{NumberAnswer}
 use Rattle.floats.specs.declared.answer.NumberAnswer.the-variants as ofNumber

@@ -1,26 +1,26 @@
 -- The float routines as calls: 12, then 14, then 13, and where nothing is refused the Rust's own steps, which the specs of
--- float_track, gutters, distribution, fr_size, maximise and stretch name. Assumes nothing.
-use mathlib.Core.Bool.{Bool, true, false, not, _&&_, _||_}
+-- float_track, float_gutters, float_distribution, float_fr_size, float_maximise and float_stretch name. Assumes nothing.
+use mathlib.Core.Bool.{Bool, not, _&&_, _||_}
 use mathlib.Core.List.{List, [], _∷_, _++_}
 use Prim.Native.Nat.{ℕ, _+_, _%_}
 use lib.Dec.{eqb}
 use lib.ListN.{length}
 use lib.Ieee.{Float}
-use Rattle.domain.specs.declared.kind.Kind.the-variants.{Size, Limit, Factor, Proportion}
-use Rattle.domain.specs.Domain as Domain
-use Rattle.domain.specs.Domain.{Number, absent, given, numbersOf, trackNumbers, tracksNumbers, Finding, fine, first, unless, lengthsFinding, outsideFrom}
+use Rattle.laws.specs.Faults.{Fault, fine, fault, first, unless}
+use Rattle.float_domain.specs.declared.kind.Kind.the-variants.{Size, Limit, Factor, Proportion}
+use Rattle.float_domain.specs.Domain.{Number, absent, given, numbersOf, trackNumbers, tracksNumbers, lengthsFault, outsideFrom}
 use Rattle.float_track.specs.declared.track.Track.{Track}
 use Rattle.float_track.specs.declared.space.AvailableSpace.{AvailableSpace}
 use Rattle.float_track.specs.declared.space.AvailableSpace.the-variants.{Definite, MinContent, MaxContent}
 use Rattle.float_track.specs.declared.space.OptionalSize.{OptionalSize}
 use Rattle.float_track.specs.declared.space.OptionalSize.the-variants.{Given, Absent}
 use Rattle.float_track.specs.Track.{rowOf, flushBase, flushLimit}
-use Rattle.gutters.specs.declared.AlignContent.{AlignContent}
-use Rattle.gutters.specs.Gutters.{gutterAdjustment}
-use Rattle.distribution.specs.Distribution.{Left, lists, left, passes}
-use Rattle.fr_size.specs.Fr.{frSize}
-use Rattle.maximise.specs.Maximise.{maximised}
-use Rattle.stretch.specs.Stretch.{stretched}
+use Rattle.float_gutters.specs.declared.AlignContent.{AlignContent}
+use Rattle.float_gutters.specs.Gutters.{gutterAdjustment}
+use Rattle.float_distribution.specs.Distribution.{Left, lists, left, passes}
+use Rattle.float_fr_size.specs.Fr.{frSize}
+use Rattle.float_maximise.specs.Maximise.{maximised}
+use Rattle.float_stretch.specs.Stretch.{stretched}
 
 -- ---- What a call tells, and what it leaves
 
@@ -30,9 +30,9 @@ pub data Told : Type 0 where
   flushed : Track → Told
   refused : ℕ → ℕ → Told
 
-abbrev pub toldOr : Finding → Told → Told
+abbrev pub toldOr : Fault → Told → Told
 toldOr fine answer = answer
-toldOr (Domain.refused n place) answer = refused n place
+toldOr (fault n place) answer = refused n place
 
 pub record Outcome : Type 0 where
   pub told : Told
@@ -42,9 +42,9 @@ abbrev pub outcome : Told → List (List Float) → Outcome
 outcome told rows = record { told = told; tracks = rows }
 
 -- A refusal leaves the tracks as they were.
-abbrev pub outcomeOr : Finding → List (List Float) → Outcome → Outcome
+abbrev pub outcomeOr : Fault → List (List Float) → Outcome → Outcome
 outcomeOr fine before after = after
-outcomeOr (Domain.refused n place) before after = outcome (refused n place) before
+outcomeOr (fault n place) before after = outcome (refused n place) before
 
 -- A number that may be absent keeps its place in the count.
 abbrev pub sizeNumber : OptionalSize → Number
@@ -58,14 +58,14 @@ spaceNumber MaxContent = absent
 
 -- ---- 1. The two flushes
 
-abbrev pub flushFinding : Track → Finding
-flushFinding t = outsideFrom 0 (trackNumbers (rowOf t))
+abbrev pub flushFault : Track → Fault
+flushFault t = outsideFrom 0 (trackNumbers (rowOf t))
 
 abbrev pub flushBaseCall : Track → Told
-flushBaseCall t = toldOr (flushFinding t) (flushed (flushBase t))
+flushBaseCall t = toldOr (flushFault t) (flushed (flushBase t))
 
 abbrev pub flushLimitCall : Track → Bool → Told
-flushLimitCall t mark = toldOr (flushFinding t) (flushed (flushLimit t mark))
+flushLimitCall t mark = toldOr (flushFault t) (flushed (flushLimit t mark))
 
 -- ---- 2. The gutter adjustment
 
@@ -73,15 +73,15 @@ flushLimitCall t mark = toldOr (flushFinding t) (flushed (flushLimit t mark))
 abbrev pub isGutterCount : ℕ → Bool
 isGutterCount count = not (eqb count 3) && (eqb count 0 || eqb (count % 2) 1)
 
-abbrev pub gutterFinding : OptionalSize → List Bool → List Float → Finding
-gutterFinding inner known estimates =
-    first (lengthsFinding (length known) (length estimates ∷ []))
-    (first (unless (isGutterCount (length known)) (Domain.refused 14 0))
+abbrev pub gutterFault : OptionalSize → List Bool → List Float → Fault
+gutterFault inner known estimates =
+    first (lengthsFault (length known) (length estimates ∷ []))
+    (first (unless (isGutterCount (length known)) (fault 14 0))
     (outsideFrom 0 (sizeNumber inner ∷ numbersOf Size estimates)))
 
 abbrev pub gutterCall : AlignContent → OptionalSize → List Bool → List Float → Told
 gutterCall alignment inner known estimates =
-    toldOr (gutterFinding inner known estimates) (number (gutterAdjustment alignment inner known estimates))
+    toldOr (gutterFault inner known estimates) (number (gutterAdjustment alignment inner known estimates))
 
 -- ---- 3. The distribution to limits
 
@@ -90,9 +90,9 @@ distributionNumbers space rows proportions sizes limits =
     given Size space
     ∷ (tracksNumbers rows ++ (numbersOf Proportion proportions ++ (numbersOf Size sizes ++ numbersOf Limit limits)))
 
-abbrev pub distributionFinding : Float → List (List Float) → List Bool → List Float → List Float → List Float → Finding
-distributionFinding space rows affected proportions sizes limits =
-    first (lengthsFinding (length rows) (length affected ∷ length proportions ∷ length sizes ∷ length limits ∷ []))
+abbrev pub distributionFault : Float → List (List Float) → List Bool → List Float → List Float → List Float → Fault
+distributionFault space rows affected proportions sizes limits =
+    first (lengthsFault (length rows) (length affected ∷ length proportions ∷ length sizes ∷ length limits ∷ []))
     (outsideFrom 0 (distributionNumbers space rows proportions sizes limits))
 
 -- The space that is left, and the tracks.
@@ -101,37 +101,37 @@ leftOutcome l = outcome (number (l .space)) (l .tracks)
 
 abbrev pub distributionCall : Float → List (List Float) → List Bool → List Float → List Float → List Float → Outcome
 distributionCall space rows affected proportions sizes limits =
-    outcomeOr (distributionFinding space rows affected proportions sizes limits) rows
+    outcomeOr (distributionFault space rows affected proportions sizes limits) rows
     (leftOutcome (passes (lists affected proportions sizes limits) (length rows + 1) (left space rows)))
 
 -- ---- 4. The size of an fr
 
-abbrev pub frFinding : List (List Float) → List Bool → List Float → Float → Finding
-frFinding rows flexible factors space =
-    first (lengthsFinding (length rows) (length flexible ∷ length factors ∷ []))
+abbrev pub frFault : List (List Float) → List Bool → List Float → Float → Fault
+frFault rows flexible factors space =
+    first (lengthsFault (length rows) (length flexible ∷ length factors ∷ []))
     (outsideFrom 0 (given Size space ∷ (tracksNumbers rows ++ numbersOf Factor factors)))
 
 abbrev pub frCall : List (List Float) → List Bool → List Float → Float → Told
 frCall rows flexible factors space =
-    toldOr (frFinding rows flexible factors space) (number (frSize rows flexible factors space))
+    toldOr (frFault rows flexible factors space) (number (frSize rows flexible factors space))
 
 -- ---- 5. Maximise
 
-abbrev pub maximiseFinding : List (List Float) → List Float → AvailableSpace → Finding
-maximiseFinding rows fits space =
-    first (lengthsFinding (length rows) (length fits ∷ []))
+abbrev pub maximiseFault : List (List Float) → List Float → AvailableSpace → Fault
+maximiseFault rows fits space =
+    first (lengthsFault (length rows) (length fits ∷ []))
     (outsideFrom 0 (spaceNumber space ∷ (tracksNumbers rows ++ numbersOf Limit fits)))
 
 abbrev pub maximiseCall : List (List Float) → List Float → AvailableSpace → Outcome
-maximiseCall rows fits space = outcomeOr (maximiseFinding rows fits space) rows (outcome sized (maximised space fits rows))
+maximiseCall rows fits space = outcomeOr (maximiseFault rows fits space) rows (outcome sized (maximised space fits rows))
 
 -- ---- 6. Stretch
 
-abbrev pub stretchFinding : List (List Float) → List Bool → OptionalSize → AvailableSpace → Finding
-stretchFinding rows autos minimum space =
-    first (lengthsFinding (length rows) (length autos ∷ []))
+abbrev pub stretchFault : List (List Float) → List Bool → OptionalSize → AvailableSpace → Fault
+stretchFault rows autos minimum space =
+    first (lengthsFault (length rows) (length autos ∷ []))
     (outsideFrom 0 (sizeNumber minimum ∷ spaceNumber space ∷ tracksNumbers rows))
 
 abbrev pub stretchCall : List (List Float) → List Bool → OptionalSize → AvailableSpace → Outcome
 stretchCall rows autos minimum space =
-    outcomeOr (stretchFinding rows autos minimum space) rows (outcome sized (stretched minimum space autos rows))
+    outcomeOr (stretchFault rows autos minimum space) rows (outcome sized (stretched minimum space autos rows))

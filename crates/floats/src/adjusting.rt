@@ -1,27 +1,28 @@
 // The gutter adjustment of an alignment. The estimate of each track may be absent.
 use crate::answer::NumberAnswer;
-use domain::Fault;
-use domain::Kind;
-use domain::Refusal;
-use domain::number_fault;
-use domain::slice_fault;
-use domain::two_fit;
+use float_domain::Fault;
+use float_domain::Kind;
+use float_domain::Refusal;
+use float_domain::number_fault;
+use float_domain::slice_fault;
+use float_domain::two_fit;
+use float_gutters::AlignContent;
 use float_track::OptionalSize;
-use gutters::AlignContent;
 ghost use mathlib.Core.Path.{_≡_};
 ghost use mathlib.Core.List.{[], _∷_};
 ghost use lib.Ieee.{Float};
-ghost use Rattle.domain.specs.Domain.{outsideFrom, fine};
-ghost use Rattle.domain.specs.Answer.{findingOf};
-ghost use Rattle.agreement.specs.Rust.{IsRustMax};
-ghost use Rattle.agreement.specs.Inputs.{GutterInputs};
-ghost use Rattle.floats.specs.Rule.{sizeNumber, isGutterCount, gutterFinding, gutterCall};
+ghost use Rattle.laws.specs.Faults.{fine};
+ghost use Rattle.float_domain.specs.Domain.{outsideFrom};
+ghost use Rattle.float_domain.specs.Answer.{faultOf};
+ghost use Rattle.float_agreement.specs.Rust.{IsRustMax};
+ghost use Rattle.float_agreement.specs.Inputs.{GutterInputs};
+ghost use Rattle.floats.specs.Rule.{sizeNumber, isGutterCount, gutterFault, gutterCall};
 ghost use Rattle.floats.specs.Rust.{rustGutterCall};
 ghost use Rattle.floats.specs.Answer.{numberTold};
 
 // A size that may be absent; where it is, there is no float to test.
 pub(crate) fn size_fault(index: usize, size: OptionalSize) -> Fault
-    ensures { λ r. ⌜ findingOf r ≡ outsideFrom index (sizeNumber size ∷ []) ⌝ }
+    ensures { λ r. ⌜ faultOf r ≡ outsideFrom index (sizeNumber size ∷ []) ⌝ }
 {
     match size {
         OptionalSize::Given(x) => number_fault(index, Kind::Size, x),
@@ -44,8 +45,8 @@ fn is_gutter_count(count: usize) -> bool
 
 // What refuses the call. Where nothing does, its numbers are known to be f32 in their domains.
 fn gutter_fault(inner: OptionalSize, known: &[bool], estimates: &[f32]) -> Fault
-    ensures { λ r. ⌜ findingOf r ≡ gutterFinding inner (now (known .entry)) (now (estimates .entry)) ⌝ }
-    ensures { λ r. ⌜ (gutterFinding inner (now (known .entry)) (now (estimates .entry)) ≡ fine → GutterInputs inner (now (known .entry)) (now (estimates .entry))) ⌝ }
+    ensures { λ r. ⌜ faultOf r ≡ gutterFault inner (now (known .entry)) (now (estimates .entry)) ⌝ }
+    ensures { λ r. ⌜ (gutterFault inner (now (known .entry)) (now (estimates .entry)) ≡ fine → GutterInputs inner (now (known .entry)) (now (estimates .entry))) ⌝ }
 {
     if !two_fit(known.len(), estimates.len()) {
         return Fault::Found(Refusal::Lengths);
@@ -70,7 +71,7 @@ pub fn compute_alignment_gutter_adjustment(
     match fault {
         Fault::Found(refusal) => NumberAnswer::Refused(refusal),
         Fault::Fine => {
-            NumberAnswer::Number(gutters::compute_alignment_gutter_adjustment(
+            NumberAnswer::Number(float_gutters::compute_alignment_gutter_adjustment(
                 alignment,
                 inner,
                 known,

@@ -1,5 +1,5 @@
 // What a call answers.
-use domain::Refusal;
+use float_domain::Refusal;
 use float_track::Track;
 
 // A number: what is left, the size of an fr, a gutter's adjustment.

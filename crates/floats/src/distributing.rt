@@ -1,19 +1,19 @@
 // The distribution of space up to limits.
 use crate::answer::NumberAnswer;
-use domain::Fault;
-use domain::Kind;
-use domain::Refusal;
-use domain::five_fit;
-use domain::number_fault;
-use domain::slice_fault;
-use domain::tracks_fault;
+use float_domain::Fault;
+use float_domain::Kind;
+use float_domain::Refusal;
+use float_domain::five_fit;
+use float_domain::number_fault;
+use float_domain::slice_fault;
+use float_domain::tracks_fault;
 ghost use mathlib.Core.Path.{_≡_};
 ghost use lib.Ieee.{Float};
-ghost use Rattle.domain.specs.Domain.{fine};
-ghost use Rattle.domain.specs.Answer.{findingOf};
-ghost use Rattle.agreement.specs.Rust.{IsRustMin};
-ghost use Rattle.agreement.specs.Inputs.{DistributionInputs};
-ghost use Rattle.floats.specs.Rule.{outcome, distributionFinding, distributionCall};
+ghost use Rattle.laws.specs.Faults.{fine};
+ghost use Rattle.float_domain.specs.Answer.{faultOf};
+ghost use Rattle.float_agreement.specs.Rust.{IsRustMin};
+ghost use Rattle.float_agreement.specs.Inputs.{DistributionInputs};
+ghost use Rattle.floats.specs.Rule.{outcome, distributionFault, distributionCall};
 ghost use Rattle.floats.specs.Rust.{rustDistributionCall};
 ghost use Rattle.floats.specs.Answer.{numberTold};
 
@@ -26,8 +26,8 @@ fn distribution_fault(
     sizes: &[f32],
     limits: &[f32],
 ) -> Fault
-    ensures { λ r. ⌜ findingOf r ≡ distributionFinding space (now (tracks .entry)) (now (affected .entry)) (now (proportions .entry)) (now (sizes .entry)) (now (limits .entry)) ⌝ }
-    ensures { λ r. ⌜ (distributionFinding space (now (tracks .entry)) (now (affected .entry)) (now (proportions .entry)) (now (sizes .entry)) (now (limits .entry)) ≡ fine → DistributionInputs space (now (tracks .entry)) (now (affected .entry)) (now (proportions .entry)) (now (sizes .entry)) (now (limits .entry))) ⌝ }
+    ensures { λ r. ⌜ faultOf r ≡ distributionFault space (now (tracks .entry)) (now (affected .entry)) (now (proportions .entry)) (now (sizes .entry)) (now (limits .entry)) ⌝ }
+    ensures { λ r. ⌜ (distributionFault space (now (tracks .entry)) (now (affected .entry)) (now (proportions .entry)) (now (sizes .entry)) (now (limits .entry)) ≡ fine → DistributionInputs space (now (tracks .entry)) (now (affected .entry)) (now (proportions .entry)) (now (sizes .entry)) (now (limits .entry))) ⌝ }
 {
     let n = tracks.len();
     if !five_fit(
@@ -62,7 +62,7 @@ pub fn distribute_space_up_to_limits(
     match fault {
         Fault::Found(refusal) => NumberAnswer::Refused(refusal),
         Fault::Fine => {
-            NumberAnswer::Number(distribution::distribute_space_up_to_limits(
+            NumberAnswer::Number(float_distribution::distribute_space_up_to_limits(
                 space,
                 tracks,
                 affected,

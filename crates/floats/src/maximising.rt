@@ -1,27 +1,28 @@
 // Maximise.
 use crate::answer::TracksAnswer;
-use domain::Fault;
-use domain::Kind;
-use domain::Refusal;
-use domain::number_fault;
-use domain::slice_fault;
-use domain::tracks_fault;
-use domain::two_fit;
+use float_domain::Fault;
+use float_domain::Kind;
+use float_domain::Refusal;
+use float_domain::number_fault;
+use float_domain::slice_fault;
+use float_domain::tracks_fault;
+use float_domain::two_fit;
 use float_track::AvailableSpace;
 ghost use mathlib.Core.Path.{_≡_};
 ghost use mathlib.Core.List.{[], _∷_};
 ghost use lib.Ieee.{Float};
-ghost use Rattle.domain.specs.Domain.{outsideFrom, fine};
-ghost use Rattle.domain.specs.Answer.{findingOf};
-ghost use Rattle.agreement.specs.Rust.{IsRustMin};
-ghost use Rattle.agreement.specs.Inputs.{MaximiseInputs};
-ghost use Rattle.floats.specs.Rule.{outcome, spaceNumber, maximiseFinding, maximiseCall};
+ghost use Rattle.laws.specs.Faults.{fine};
+ghost use Rattle.float_domain.specs.Domain.{outsideFrom};
+ghost use Rattle.float_domain.specs.Answer.{faultOf};
+ghost use Rattle.float_agreement.specs.Rust.{IsRustMin};
+ghost use Rattle.float_agreement.specs.Inputs.{MaximiseInputs};
+ghost use Rattle.floats.specs.Rule.{outcome, spaceNumber, maximiseFault, maximiseCall};
 ghost use Rattle.floats.specs.Rust.{rustMaximiseCall};
 ghost use Rattle.floats.specs.Answer.{tracksTold};
 
 // A space that is not definite has no float to test.
 pub(crate) fn space_fault(index: usize, space: AvailableSpace) -> Fault
-    ensures { λ r. ⌜ findingOf r ≡ outsideFrom index (spaceNumber space ∷ []) ⌝ }
+    ensures { λ r. ⌜ faultOf r ≡ outsideFrom index (spaceNumber space ∷ []) ⌝ }
 {
     match space {
         AvailableSpace::Definite(x) => number_fault(index, Kind::Size, x),
@@ -32,8 +33,8 @@ pub(crate) fn space_fault(index: usize, space: AvailableSpace) -> Fault
 
 // What refuses the call. Where nothing does, its numbers are known to be f32 in their domains.
 fn maximise_fault(tracks: &[[f32; 5]], fits: &[f32], space: AvailableSpace) -> Fault
-    ensures { λ r. ⌜ findingOf r ≡ maximiseFinding (now (tracks .entry)) (now (fits .entry)) space ⌝ }
-    ensures { λ r. ⌜ (maximiseFinding (now (tracks .entry)) (now (fits .entry)) space ≡ fine → MaximiseInputs (now (tracks .entry)) (now (fits .entry))) ⌝ }
+    ensures { λ r. ⌜ faultOf r ≡ maximiseFault (now (tracks .entry)) (now (fits .entry)) space ⌝ }
+    ensures { λ r. ⌜ (maximiseFault (now (tracks .entry)) (now (fits .entry)) space ≡ fine → MaximiseInputs (now (tracks .entry)) (now (fits .entry))) ⌝ }
 {
     let n = tracks.len();
     if !two_fit(n, fits.len()) {
@@ -53,7 +54,7 @@ pub fn maximise_tracks(tracks: &mut [[f32; 5]], fits: &[f32], space: AvailableSp
     match fault {
         Fault::Found(refusal) => TracksAnswer::Refused(refusal),
         Fault::Fine => {
-            maximise::maximise_tracks(tracks, fits, space);
+            float_maximise::maximise_tracks(tracks, fits, space);
             TracksAnswer::Sized
         }
     }

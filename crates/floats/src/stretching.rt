@@ -2,17 +2,17 @@
 use crate::adjusting::size_fault;
 use crate::answer::TracksAnswer;
 use crate::maximising::space_fault;
-use domain::Fault;
-use domain::Refusal;
-use domain::tracks_fault;
-use domain::two_fit;
+use float_domain::Fault;
+use float_domain::Refusal;
+use float_domain::tracks_fault;
+use float_domain::two_fit;
 use float_track::AvailableSpace;
 use float_track::OptionalSize;
 ghost use mathlib.Core.Path.{_≡_};
-ghost use Rattle.domain.specs.Domain.{fine};
-ghost use Rattle.domain.specs.Answer.{findingOf};
-ghost use Rattle.agreement.specs.Inputs.{StretchInputs};
-ghost use Rattle.floats.specs.Rule.{outcome, stretchFinding, stretchCall};
+ghost use Rattle.laws.specs.Faults.{fine};
+ghost use Rattle.float_domain.specs.Answer.{faultOf};
+ghost use Rattle.float_agreement.specs.Inputs.{StretchInputs};
+ghost use Rattle.floats.specs.Rule.{outcome, stretchFault, stretchCall};
 ghost use Rattle.floats.specs.Answer.{tracksTold};
 
 // What refuses the call. Where nothing does, its numbers are known to be f32 in their domains.
@@ -22,8 +22,8 @@ fn stretch_fault(
     minimum: OptionalSize,
     space: AvailableSpace,
 ) -> Fault
-    ensures { λ r. ⌜ findingOf r ≡ stretchFinding (now (tracks .entry)) (now (autos .entry)) minimum space ⌝ }
-    ensures { λ r. ⌜ (stretchFinding (now (tracks .entry)) (now (autos .entry)) minimum space ≡ fine → StretchInputs (now (tracks .entry)) (now (autos .entry)) minimum space) ⌝ }
+    ensures { λ r. ⌜ faultOf r ≡ stretchFault (now (tracks .entry)) (now (autos .entry)) minimum space ⌝ }
+    ensures { λ r. ⌜ (stretchFault (now (tracks .entry)) (now (autos .entry)) minimum space ≡ fine → StretchInputs (now (tracks .entry)) (now (autos .entry)) minimum space) ⌝ }
 {
     if !two_fit(tracks.len(), autos.len()) {
         return Fault::Found(Refusal::Lengths);
@@ -41,13 +41,13 @@ pub fn stretch_auto_tracks(
     space: AvailableSpace,
 ) -> TracksAnswer
     ensures { λ r. ⌜ outcome (tracksTold r) (now (tracks .exit)) ≡ stretchCall (now (tracks .entry)) (now (autos .entry)) minimum space ⌝ }
-    ensures { λ r. ⌜ (stretchFinding (now (tracks .entry)) (now (autos .entry)) minimum space ≡ fine → StretchInputs (now (tracks .entry)) (now (autos .entry)) minimum space) ⌝ }
+    ensures { λ r. ⌜ (stretchFault (now (tracks .entry)) (now (autos .entry)) minimum space ≡ fine → StretchInputs (now (tracks .entry)) (now (autos .entry)) minimum space) ⌝ }
 {
     let fault = stretch_fault(tracks, autos, minimum, space);
     match fault {
         Fault::Found(refusal) => TracksAnswer::Refused(refusal),
         Fault::Fine => {
-            stretch::stretch_auto_tracks(tracks, autos, minimum, space);
+            float_stretch::stretch_auto_tracks(tracks, autos, minimum, space);
             TracksAnswer::Sized
         }
     }

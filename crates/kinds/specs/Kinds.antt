@@ -35,6 +35,12 @@ amountNumber (Given n) = n
 abbrev pub amountOf : ℕ → ℕ → Amount
 amountOf tag n = cond (eqb tag 1) (Given n) Absent
 
+-- both are given, and the later is below the earlier
+abbrev pub above : Amount → Amount → Bool
+above (Given x) (Given y) = ltb y x
+above (Given x) Absent = false
+above Absent later = false
+
 -- ---- What the space asks of the board
 
 abbrev pub constraintTag : Constraint → ℕ
@@ -128,17 +134,8 @@ itemOf row =
     item (getD row 0 0 % 65536) (getD row 0 0 / 65536)
     (contribution (amountOf (getD row 1 0) (getD row 2 0)) ∷ contribution (amountOf (getD row 3 0) (getD row 4 0)) ∷ contribution (amountOf (getD row 5 0) (getD row 6 0)) ∷ [])
 
--- both are given, and the later is below the earlier
-abbrev pub above : Amount → Amount → Bool
-above (Given x) (Given y) = ltb y x
-above (Given x) Absent = false
-above Absent later = false
-
-abbrev pub isAbove : Contribution → Contribution → Bool
-isAbove a b = above (a .amount) (b .amount)
-
 -- a given contribution is below an earlier given one
-abbrev pub fallsIn : List Contribution → Bool
-fallsIn row =
-    isAbove (getD row 0 (contribution Absent)) (getD row 1 (contribution Absent))
-    || (isAbove (getD row 1 (contribution Absent)) (getD row 2 (contribution Absent)) || isAbove (getD row 0 (contribution Absent)) (getD row 2 (contribution Absent)))
+abbrev pub falls : Item → Bool
+falls i =
+    above (amountAt i kind.Minimum) (amountAt i kind.MinContent)
+    || (above (amountAt i kind.MinContent) (amountAt i kind.MaxContent) || above (amountAt i kind.Minimum) (amountAt i kind.MaxContent))

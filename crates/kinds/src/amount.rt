@@ -1,6 +1,6 @@
 // A number that may be missing: absent is a case, and no number.
 ghost use mathlib.Core.Path.{_≡_};
-ghost use Rattle.kinds.specs.Kinds.{amountOf, amountTag, amountNumber};
+ghost use Rattle.kinds.specs.Kinds.{amountOf, amountTag, amountNumber, above};
 
 pub enum Amount {
     Absent,
@@ -38,6 +38,19 @@ impl Amount {
         match self {
             Amount::Absent => 0,
             Amount::Given(n) => n,
+        }
+    }
+
+    // Both are given, and the later is below this one.
+    pub(crate) fn is_above(self, later: Amount) -> bool
+        ensures { λ r. ⌜ r ≡ above self later ⌝ }
+    {
+        match self {
+            Amount::Absent => false,
+            Amount::Given(x) => match later {
+                Amount::Absent => false,
+                Amount::Given(y) => y < x,
+            },
         }
     }
 }

@@ -2,7 +2,7 @@
 use crate::amount::Amount;
 ghost use mathlib.Core.Path.{_≡_};
 ghost use Prim.Native.Nat.{_<_};
-ghost use Rattle.kinds.specs.Kinds.{amountOf, contribution, isAbove, kindIndex, itemOf, amountAt, fallsIn};
+ghost use Rattle.kinds.specs.Kinds.{amountOf, contribution, kindIndex, itemOf, amountAt, falls};
 
 // The kinds of contribution, in the order of an item's row.
 pub enum ContributionKind {
@@ -12,8 +12,8 @@ pub enum ContributionKind {
 }
 
 impl ContributionKind {
-    // The kind's place in a row of three.
-    fn index(self) -> usize
+    // The kind's index in a row of three.
+    pub fn index(self) -> usize
         ensures { λ r. ⌜ (r ≡ kindIndex self) × (r < 3) ⌝ }
     {
         match self {
@@ -34,21 +34,6 @@ impl Contribution {
     {
         let amount = Amount::of(tag, n);
         Contribution { amount }
-    }
-
-    // Both are given, and the later is below the earlier.
-    fn is_above(self, later: Contribution) -> bool
-        ensures { λ r. ⌜ r ≡ isAbove self later ⌝ }
-    {
-        let a = self.amount;
-        let b = later.amount;
-        match a {
-            Amount::Absent => false,
-            Amount::Given(x) => match b {
-                Amount::Absent => false,
-                Amount::Given(y) => y < x,
-            },
-        }
     }
 }
 
@@ -91,15 +76,17 @@ impl Item {
 
     // A contribution that is given is below an earlier one that is given.
     pub fn falls(self) -> bool
-        ensures { λ r. ⌜ r ≡ fallsIn (self .row) ⌝ }
+        ensures { λ r. ⌜ r ≡ falls self ⌝ }
     {
-        let row = self.row;
-        if row[0].is_above(row[1]) {
+        let minimum = self.amount(ContributionKind::Minimum);
+        let min_content = self.amount(ContributionKind::MinContent);
+        let max_content = self.amount(ContributionKind::MaxContent);
+        if minimum.is_above(min_content) {
             return true;
         }
-        if row[1].is_above(row[2]) {
+        if min_content.is_above(max_content) {
             return true;
         }
-        row[0].is_above(row[2])
+        minimum.is_above(max_content)
     }
 }

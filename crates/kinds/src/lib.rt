@@ -2,6 +2,7 @@
 mod amount;
 mod constraint;
 mod item;
+mod mark;
 mod track;
 
 pub use amount::Amount;
@@ -9,6 +10,7 @@ pub use constraint::Constraint;
 pub use item::Contribution;
 pub use item::ContributionKind;
 pub use item::Item;
+pub use mark::bit;
 pub use track::Maximum;
 pub use track::Minimum;
 pub use track::Track;

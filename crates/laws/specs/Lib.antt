@@ -7,8 +7,10 @@ pub mod Runs
 pub mod Put
 pub mod Rows
 pub mod Lists
+pub mod Faults
 pub mod Alls
 pub mod Spans
 pub mod Turns
+pub mod Changes
 pub mod Zips
 pub mod Store

@@ -1,7 +1,7 @@
 -- A test as one of its two answers, with what the answer says. Assumes nothing.
 use mathlib.Core.Path.{_≡_, refl, sym, _∙_}
 use mathlib.Core.Logic.{_⊎_, inl, inr, ⊎-elim}
-use mathlib.Core.Bool.{Bool, true, false, true≢false}
+use mathlib.Core.Bool.{Bool, true, false, _&&_, true≢false}
 use Prim.Native.Nat.{ℕ, _+_, _-_, _≤_, _<_}
 use native.Mathlib.Omega.{arith}
 use lib.Dec.{ltb, leb}
@@ -29,3 +29,8 @@ leb-sub a b c h =
     (λ (l : (b - a) < c). lt-leb c (b - a) l ∙ sym (lt-leb (a + c) b (omega arith)))
     (λ (l : c ≤ (b - a)). le-leb c (b - a) l ∙ sym (le-leb (a + c) b (omega arith)))
     (lt-or-ge (b - a) c)
+
+-- both hold
+pub both-true : (a b : Bool) → (a && b) ≡ true → (a ≡ true) × (b ≡ true)
+both-true true b e = (refl, e)
+both-true false b e = never e refl

@@ -1,1 +1,2 @@
-// The laws that every proof cites are this crate's specs/: loops, rounds, marks, sums and quotients. It has no code.
+// The words for lists and faults in which the rules are said, and the laws of loops, rounds, marks, sums and quotients that the proofs
+// cite: they are this crate's specs/. It has no code.

@@ -1,4 +1,4 @@
--- A layout, case by case as the code goes: too few places, a record at fault, the sizes. Nothing is asked of the sizes but how many
+-- A layout, case by case as the code goes: too few sizes lent, a record at fault, the sizes. Nothing is asked of these but how many
 -- they are. Assumes nothing.
 use mathlib.Core.Path.{_≡_, sym, ap, subst, _∙_}
 use mathlib.Core.List.{List, _++_, map}
@@ -21,42 +21,42 @@ use Rattle.checks.specs.declared.refusal.Refusal as check
 use Rattle.checks.proofs.Sound.{space-of-fine, sound-of-fine}
 use Rattle.lines.specs.Rule.{Board, size}
 use Rattle.sizing.specs.Size.{Sizable, boardOf, sizeRows}
-use Rattle.sizing.specs.declared.Sizes.{Sizes}
+use Rattle.sizing.specs.declared.Sized.{Sized}
 use Rattle.layout.specs.Rule.{BoardOutcome, layoutSizes, sizedOutcome, layoutCall}
 use Rattle.layout.specs.Answer.{layoutLeaves}
-use Rattle.layout.specs.declared.refusal.Refusal.the-variants.{TooFewPlaces, Record}
+use Rattle.layout.specs.declared.refusal.Refusal.the-variants.{LentTooShort, Record}
 use Rattle.layout.specs.declared.LayoutAnswer.the-variants as answer
 use Rattle.layout.proofs.Expansion.{expansion-fits}
 
-module _ (space : Space) (tracks items places : List Row) where
+module _ (space : Space) (tracks items sizes : List Row) where
   -- what is to come of it
   abbrev pub laidOut : BoardOutcome
-  laidOut = layoutCall space (map sheetTrackOf tracks) (map itemOf items) places
+  laidOut = layoutCall space (map sheetTrackOf tracks) (map itemOf items) sizes
 
-  pub too-few-places : length places < length tracks → layoutLeaves (answer.Refused TooFewPlaces) places ≡ laidOut
+  pub too-few-lent : length sizes < length tracks → layoutLeaves (answer.Refused LentTooShort) sizes ≡ laidOut
   unfolding layoutCall
-  too-few-places h = rw (length-map tracks sheetTrackOf, lt-leb (length tracks) (length places) h)
+  too-few-lent h = rw (length-map tracks sheetTrackOf, lt-leb (length tracks) (length sizes) h)
 
-  module _ (h : length tracks ≤ length places) where
+  module _ (h : length tracks ≤ length sizes) where
     pub record-refused : (refusal : check.Refusal) → checks.refusalFault refusal ≡ recordFault space (map sheetTrackOf tracks) (map itemOf items)
-        → layoutLeaves (answer.Refused (Record refusal)) places ≡ laidOut
+        → layoutLeaves (answer.Refused (Record refusal)) sizes ≡ laidOut
     unfolding layoutCall
-    record-refused refusal e = rw (length-map tracks sheetTrackOf, le-leb (length tracks) (length places) h, ← e)
+    record-refused refusal e = rw (length-map tracks sheetTrackOf, le-leb (length tracks) (length sizes) h, ← e)
 
     module _ (e : recordFault space (map sheetTrackOf tracks) (map itemOf items) ≡ fine) where
       -- the rows say the tracks that the sizing reads
       sizes-of-rows : sizeRows (space .constraint) (expansion space) (space .stretch) tracks items ≡ layoutSizes space (map sheetTrackOf tracks) (map itemOf items)
       sizes-of-rows = ap (λ (ts : List Track). size (space .constraint) (expansion space) (space .stretch) ts (map itemOf items)) (sym (rows-resolved tracks))
 
-      -- the sizes `now` stand where the first places were
-      pub sized : (sizes : Sizes) (expansion′ : Constraint) (now : List Row) → expansion′ ≡ expansion space → length now ≡ length tracks
-          → boardOf sizes now ≡ sizeRows (space .constraint) expansion′ (space .stretch) tracks items
-          → layoutLeaves (answer.Board (length tracks) (sizes .free) (sizes .rounds)) (now ++ drop (length tracks) places) ≡ laidOut
+      -- the sizes `now` stand where the first lent ones were
+      pub sized : (done : Sized) (expansion′ : Constraint) (now : List Row) → expansion′ ≡ expansion space → length now ≡ length tracks
+          → boardOf done now ≡ sizeRows (space .constraint) expansion′ (space .stretch) tracks items
+          → layoutLeaves (answer.Board (length tracks) (done .free) (done .rounds)) (now ++ drop (length tracks) sizes) ≡ laidOut
       unfolding layoutCall
-      sized sizes expansion′ now x l b =
-          let told : layoutLeaves (answer.Board (length tracks) (sizes .free) (sizes .rounds)) (now ++ drop (length tracks) places) ≡ sizedOutcome (boardOf sizes now) places = rw (← l) in
+      sized done expansion′ now x l b =
+          let told : layoutLeaves (answer.Board (length tracks) (done .free) (done .rounds)) (now ++ drop (length tracks) sizes) ≡ sizedOutcome (boardOf done now) sizes = rw (← l) in
           let same = b ∙ ap (λ (k : Constraint). sizeRows (space .constraint) k (space .stretch) tracks items) x ∙ sizes-of-rows in
-          rw (length-map tracks sheetTrackOf, le-leb (length tracks) (length places) h, e) (told ∙ ap (λ (board : Board). sizedOutcome board places) same)
+          rw (length-map tracks sheetTrackOf, le-leb (length tracks) (length sizes) h, e) (told ∙ ap (λ (board : Board). sizedOutcome board sizes) same)
 
   -- what the sizing asks for
   pub sizable : (expansion′ : Constraint) → expansion′ ≡ expansion space → length tracks ≤ mostTracks → recordFault space (map sheetTrackOf tracks) (map itemOf items) ≡ fine

@@ -6,16 +6,16 @@ use Rattle.checks.specs.Answer as checks
 use Rattle.sizing.specs.Size.{freeTold}
 use Rattle.layout.specs.Rule.{BoardTold, board, refused, BoardOutcome, boardOutcome}
 use Rattle.layout.specs.declared.refusal.Refusal.{Refusal}
-use Rattle.layout.specs.declared.refusal.Refusal.the-variants.{TooFewPlaces, Record}
+use Rattle.layout.specs.declared.refusal.Refusal.the-variants.{LentTooShort, Record}
 use Rattle.layout.specs.declared.LayoutAnswer.{LayoutAnswer}
 use Rattle.layout.specs.declared.LayoutAnswer.the-variants as answer
 
 abbrev pub numberOf : Refusal → ℕ
-numberOf TooFewPlaces = 6
+numberOf LentTooShort = 6
 numberOf (Record refusal) = checks.numberOf refusal
 
 abbrev pub placeOf : Refusal → ℕ
-placeOf TooFewPlaces = 0
+placeOf LentTooShort = 0
 placeOf (Record refusal) = checks.placeOf refusal
 
 abbrev pub layoutTold : LayoutAnswer → BoardTold
@@ -23,4 +23,4 @@ layoutTold (answer.Board tracks free rounds) = board tracks (freeTold free) roun
 layoutTold (answer.Refused refusal) = refused (numberOf refusal) (placeOf refusal)
 
 abbrev pub layoutLeaves : LayoutAnswer → List Row → BoardOutcome
-layoutLeaves answer places = boardOutcome (layoutTold answer) places
+layoutLeaves answer sizes = boardOutcome (layoutTold answer) sizes

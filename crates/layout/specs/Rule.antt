@@ -1,4 +1,4 @@
--- A space, tracks and items laid out in lent places: sizes or a refusal. The order of refusals is the build paper's table, from 6 on;
+-- A space, tracks and items laid out in lent sizes: sizes or a refusal. The order of refusals is the build paper's table, from 6 on;
 -- the checks, the sizing, and what the sizing reads of a sheet have their own pages. It assumes nothing of the code and it computes.
 use Prim.Native.Nat.{ℕ}
 use mathlib.Core.List.{List, map}
@@ -12,7 +12,7 @@ use Rattle.records.specs.Rule.{Fault, fine, fault, first, enough, onto}
 use Rattle.checks.specs.Rule.{recordFault}
 use Rattle.lines.specs.Rule.{FreeTold, Board, size}
 
--- What a board tells: its tracks, the free space and the rounds; or the refusal. And what stands in the lent places after it:
+-- What a board tells: its tracks, the free space and the rounds; or the refusal. And what stands in the lent sizes after it:
 -- base and limit in one place.
 pub data BoardTold : Type 0 where
   board : (tracks : ℕ) (free : FreeTold) (rounds : ℕ) → BoardTold
@@ -20,26 +20,26 @@ pub data BoardTold : Type 0 where
 
 pub record BoardOutcome : Type 0 where
   pub told : BoardTold
-  pub places : List Row
+  pub sizes : List Row
 
 abbrev pub boardOutcome : BoardTold → List Row → BoardOutcome
-boardOutcome told places = record { told = told; places = places }
+boardOutcome told sizes = record { told = told; sizes = sizes }
 
 -- 6, then 7 to 11
 abbrev pub layoutFault : Space → List SheetTrack → List Item → List Row → Fault
-layoutFault s ts is places = first (enough (length ts) (length places)) (recordFault s ts is)
+layoutFault s ts is sizes = first (enough (length ts) (length sizes)) (recordFault s ts is)
 
 -- the sizes, from what the sizing reads of the space and the tracks
 abbrev pub layoutSizes : Space → List SheetTrack → List Item → Board
 layoutSizes s ts is = size (s .constraint) (expansion s) (s .stretch) (map resolved ts) is
 
--- sizes stand in the first places, the others keep what they hold
+-- sizes stand in the first sizes, the others keep what they hold
 abbrev pub sizedOutcome : Board → List Row → BoardOutcome
-sizedOutcome b places = boardOutcome (board (length (b .places)) (b .free) (b .rounds)) (onto (b .places) places)
+sizedOutcome b sizes = boardOutcome (board (length (b .sizes)) (b .free) (b .rounds)) (onto (b .sizes) sizes)
 
 abbrev pub layoutAs : Fault → Space → List SheetTrack → List Item → List Row → BoardOutcome
-layoutAs fine s ts is places = sizedOutcome (layoutSizes s ts is) places
-layoutAs (fault number place) s ts is places = boardOutcome (refused number place) places
+layoutAs fine s ts is sizes = sizedOutcome (layoutSizes s ts is) sizes
+layoutAs (fault number place) s ts is sizes = boardOutcome (refused number place) sizes
 
 unfoldable pub layoutCall : Space → List SheetTrack → List Item → List Row → BoardOutcome
-layoutCall s ts is places = layoutAs (layoutFault s ts is places) s ts is places
+layoutCall s ts is sizes = layoutAs (layoutFault s ts is sizes) s ts is sizes

@@ -1,10 +1,10 @@
-// What refuses a layout: the lent places, or a record; with the paper's number and place of each.
+// What refuses a layout: too few sizes lent, or a record; with the paper's number and place of each.
 ghost use mathlib.Core.Path.{_≡_};
 ghost use Rattle.layout.specs.Answer.{numberOf, placeOf};
 
 pub enum Refusal {
-    // 6: fewer places than tracks.
-    TooFewPlaces,
+    // 6: fewer sizes than tracks.
+    LentTooShort,
     // 7 to 11.
     Record(checks::Refusal),
 }
@@ -14,7 +14,7 @@ impl Refusal {
         ensures { λ r. ⌜ r ≡ numberOf self ⌝ }
     {
         match self {
-            Refusal::TooFewPlaces => 6,
+            Refusal::LentTooShort => 6,
             Refusal::Record(refusal) => refusal.number(),
         }
     }
@@ -23,7 +23,7 @@ impl Refusal {
         ensures { λ r. ⌜ r ≡ placeOf self ⌝ }
     {
         match self {
-            Refusal::TooFewPlaces => 0,
+            Refusal::LentTooShort => 0,
             Refusal::Record(refusal) => refusal.place(),
         }
     }

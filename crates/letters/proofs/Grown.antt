@@ -18,11 +18,11 @@ room-of-growable None r = refl
 room-of-growable (UpTo n) r = refl
 
 -- where some take what remains, those; else all affected
-pub rest-of-narrow : (affected takes narrow : Bool) → narrow ≡ true → (affected && takes) ≡ (affected && (takes || not narrow))
-rest-of-narrow affected takes narrow e = rw (e, or-false takes) refl
+pub rest-of-takersOnly : (affected takes takersOnly : Bool) → takersOnly ≡ true → (affected && takes) ≡ (affected && (takes || not takersOnly))
+rest-of-takersOnly affected takes takersOnly e = rw (e, or-false takes) refl
 
-pub rest-of-all : (affected takes narrow : Bool) → narrow ≡ false → affected ≡ (affected && (takes || not narrow))
-rest-of-all affected takes narrow e = rw (e, or-true takes, and-true affected) refl
+pub rest-of-all : (affected takes takersOnly : Bool) → takersOnly ≡ false → affected ≡ (affected && (takes || not takersOnly))
+rest-of-all affected takes takersOnly e = rw (e, or-true takes, and-true affected) refl
 
 -- a limit that grows, of the line l read from the row of k
 module _ (marks : Bool) (l k : Line) (increase : ℕ) (same : l ≡ k) where

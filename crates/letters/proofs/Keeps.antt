@@ -12,18 +12,20 @@ use lib.ListN.{length, getD, drop, replicate, length-take, length-replicate, len
 use lib.Seq.{getD-take, getD-drop}
 use Rattle.laws.specs.Tests.{lt-or-ge}
 use Rattle.laws.specs.Lists.{larger, largerFrom, inTurn, All, all-at, length-zip}
+use Rattle.laws.specs.Changes.{in-turn-long}
 use Rattle.laws.specs.Sums.{sum, getD-le-sum}
 use Rattle.rounds.specs.Rule.{gainsOf, fill}
 use Rattle.rounds.proofs.Tied.{Fresh}
 use Rattle.rounds.proofs.Fresh.{gain-add-left-le, length-gains}
 use Rattle.kinds.specs.Kinds.{Row}
 use Rattle.kinds.specs.declared.constraint.Constraint.{Constraint}
+use Rattle.kinds.specs.declared.item.ContributionKind.the-variants as kind
 use Rattle.spanned.specs.Rule.{mostSize, mostContribution}
 use Rattle.lines.specs.declared.limit.Limit.{Limit}
 use Rattle.lines.specs.declared.limit.Limit.the-variants.{None, UpTo}
 use Rattle.lines.specs.declared.line.Line.{Line}
 use Rattle.lines.specs.declared.measured.Measured.{Measured}
-use Rattle.lines.specs.Rule.{orBase, limitPlus, firstTrack, restTrack, shares, extraOf, gainsBy, increasedBy, increases, raise, spanned}
+use Rattle.lines.specs.Rule.{contributionAt, orBase, limitPlus, firstTrack, restTrack, shares, extraOf, gainsBy, increasedBy, increases, raise, spanned}
 use Rattle.lines.specs.Rule as rule
 use Rattle.lines.specs.Rows.{limitNumber, lineOf, linesOf}
 use Rattle.lines.specs.Fits.{LineFits, LinesFit, MeasuredFits, MeasuredFit}
@@ -98,10 +100,8 @@ larger-from-le (suc s) gs (q ∷ ps) (suc i) m g p = larger-from-le s gs ps i m 
 
 length-in-turn : (letter : rule.Letter) (c : Constraint) (ls : List Line) (batch : List Measured) (ps : List ℕ)
     → length (inTurn (increasedBy letter c ls) batch ps) ≡ length ps
-unfolding inTurn
-length-in-turn letter c ls [] ps = refl
-length-in-turn letter c ls (i ∷ batch) ps =
-    length-in-turn letter c ls batch (increasedBy letter c ls i ps) ∙ length-larger-from (i .start) (gainsBy letter c i (spanned i ls)) ps
+length-in-turn letter c ls batch ps =
+    in-turn-long (increasedBy letter c ls) (λ i qs. length-larger-from (i .start) (gainsBy letter c i (spanned i ls)) qs) batch ps
 
 -- as many as the lines
 pub length-increases : (letter : rule.Letter) (c : Constraint) (batch : List Measured) (ls : List Line) → length (increases letter c batch ls) ≡ length ls
@@ -116,11 +116,11 @@ length-raise letter c batch ls = length-zip (letter .grown) ls (increases letter
 
 contribution-le : {n : ℕ} (letter : Letter) (c : Constraint) (i : Measured) (ls : List Line) → MeasuredFits n i → letterOf letter .contribution c i ls ≤ mostContribution
 contribution-le A c i ls f = for-auto-le c _ i ls f
-contribution-le B c i ls f = f .min-content
-contribution-le C c i ls f = limited-le (i .«max_content») mostContribution i ls (f .minimum) (f .max-content)
-contribution-le D c i ls f = f .max-content
-contribution-le E c i ls f = f .min-content
-contribution-le F c i ls f = f .max-content
+contribution-le B c i ls f = f .contributions kind.MinContent
+contribution-le C c i ls f = limited-le (contributionAt i kind.MaxContent) mostContribution i ls (f .contributions kind.Minimum) (f .contributions kind.MaxContent)
+contribution-le D c i ls f = f .contributions kind.MaxContent
+contribution-le E c i ls f = f .contributions kind.MinContent
+contribution-le F c i ls f = f .contributions kind.MaxContent
 
 pub extra-le : {n : ℕ} (letter : Letter) (c : Constraint) (i : Measured) (on : List Line) → MeasuredFits n i → extraOf (letterOf letter) c i on ≤ mostContribution
 extra-le letter c i on f = let h = contribution-le letter c i on f in omega arith

@@ -57,13 +57,13 @@ lost-at share dots (row ∷ rows) (x ∷ gains) (y ∷ rests) (suc i) h g r = lo
 
 -- ---- what remains
 
-module _ (letter : rule.Letter) (narrow : Bool) (dots : ℕ) (rows : List Row) where
+module _ (letter : rule.Letter) (takersOnly : Bool) (dots : ℕ) (rows : List Row) where
   -- the caps from the place i on
   abbrev pub restCapsFrom : List ℕ → ℕ → List ℕ
-  restCapsFrom gains i = caps dots (restTracks letter narrow (linesFrom rows i) (drop i gains))
+  restCapsFrom gains i = caps dots (restTracks letter takersOnly (linesFrom rows i) (drop i gains))
 
   pub rest-caps-step : (gains : List ℕ) (i v : ℕ) → i < length rows → i < length gains
-      → v ≡ capOf dots (restOf letter narrow (lineOf (getD rows i [])) (getD gains i 0))
+      → v ≡ capOf dots (restOf letter takersOnly (lineOf (getD rows i [])) (getD gains i 0))
       → restCapsFrom gains i ≡ v ∷ restCapsFrom gains (i + 1)
   unfolding caps restTracks zipWith
   rest-caps-step gains i v h g e = rw (lines-next rows i h, next gains i 0 g, e) refl
@@ -74,9 +74,9 @@ module _ (letter : rule.Letter) (narrow : Bool) (dots : ℕ) (rows : List Row) w
 
   -- the gains from the place i on, with the caps on top
   abbrev pub cappedFrom : ℕ → List ℕ → List ℕ
-  cappedFrom i gains = zipWith _+_ gains (caps dots (restTracks letter narrow (linesFrom rows i) gains))
+  cappedFrom i gains = zipWith _+_ gains (caps dots (restTracks letter takersOnly (linesFrom rows i) gains))
 
-  pub capped-step : (i x v : ℕ) (xs : List ℕ) → i < length rows → v ≡ x + capOf dots (restOf letter narrow (lineOf (getD rows i [])) x)
+  pub capped-step : (i x v : ℕ) (xs : List ℕ) → i < length rows → v ≡ x + capOf dots (restOf letter takersOnly (lineOf (getD rows i [])) x)
       → cappedFrom i (x ∷ xs) ≡ v ∷ cappedFrom (i + 1) xs
   unfolding caps restTracks zipWith
   capped-step i x v xs h e = rw (lines-next rows i h, e) refl

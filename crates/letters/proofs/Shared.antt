@@ -145,9 +145,9 @@ first-shared letter extra ls cs rs xs gs left rounds kept loaded ran taken =
 
 -- ---- what remains
 
-pub rest-fresh : (letter : rule.Letter) (narrow : Bool) (ls : List Line) (gains : List ℕ) → Fresh (restTracks letter narrow ls gains)
+pub rest-fresh : (letter : rule.Letter) (takersOnly : Bool) (ls : List Line) (gains : List ℕ) → Fresh (restTracks letter takersOnly ls gains)
 unfolding restTracks
-rest-fresh letter narrow ls gains = zip-fresh (restOf letter narrow) (λ l g. refl) ls gains
+rest-fresh letter takersOnly ls gains = zip-fresh (restOf letter takersOnly) (λ l g. refl) ls gains
 
 -- a rest is within its cap, so it can be taken off the gain that has the cap on top
 taken-off : (level : ℕ) (gains cs : List ℕ) {ms : List Bool} → Among ms (takeEach level cs)
@@ -168,17 +168,17 @@ filled-off dots gains cs xs left rounds ran =
 
 -- the caps are loaded into the rests rs and on top of the gains, which are then cs; the rounds leave xs of the rests, and these
 -- are taken off
-pub rest-shared : (letter : rule.Letter) (narrow : Bool) (dots : ℕ) (ls : List Line) (gains cs rs xs gs : List ℕ) (left rounds : ℕ)
-    → cs ≡ zipWith _+_ gains (caps dots (restTracks letter narrow ls gains)) → rs ≡ caps dots (restTracks letter narrow ls gains)
+pub rest-shared : (letter : rule.Letter) (takersOnly : Bool) (dots : ℕ) (ls : List Line) (gains cs rs xs gs : List ℕ) (left rounds : ℕ)
+    → cs ≡ zipWith _+_ gains (caps dots (restTracks letter takersOnly ls gains)) → rs ≡ caps dots (restTracks letter takersOnly ls gains)
     → fillRests dots rs ≡ stateOf xs left rounds → gs ≡ lost cs xs
-    → gs ≡ moreGains gains (fill dots (restTracks letter narrow ls gains))
-rest-shared letter narrow dots ls gains cs rs xs gs left rounds kept loaded ran taken =
-    let ts = restTracks letter narrow ls gains in
+    → gs ≡ moreGains gains (fill dots (restTracks letter takersOnly ls gains))
+rest-shared letter takersOnly dots ls gains cs rs xs gs left rounds kept loaded ran taken =
+    let ts = restTracks letter takersOnly ls gains in
     let filled = ap (fillRests dots) (sym loaded) ∙ ran in
     taken
     ∙ ap (λ (ys : List ℕ). lost ys xs) kept
     ∙ filled-off dots gains (caps dots ts) xs left rounds filled
-    ∙ ap (zipWith _+_ gains) (lost-is-gains dots ts (rest-fresh letter narrow ls gains) xs left rounds filled)
+    ∙ ap (zipWith _+_ gains) (lost-is-gains dots ts (rest-fresh letter takersOnly ls gains) xs left rounds filled)
 
 -- no cap is above the most dots: an argument is a size
 argument-le : (m : Maximum) → maximumNumber m ≤ mostOf m → limitNumber (argumentOf m) ≤ mostSize
@@ -205,10 +205,10 @@ cond-le : (b : Bool) (n k : ℕ) → n ≤ k → cond b n 0 ≤ k
 cond-le true n k h = h
 cond-le false n k h = zero-le
 
-pub rest-cap-le : (letter : Letter) (narrow : Bool) (dots gain : ℕ) (l : Line) → dots ≤ mostDots → LineFits l
-    → capOf dots (restOf (letterOf letter) narrow l gain) ≤ mostDots
-rest-cap-le letter narrow dots gain l d f =
-    let t = restOf (letterOf letter) narrow l gain in
+pub rest-cap-le : (letter : Letter) (takersOnly : Bool) (dots gain : ℕ) (l : Line) → dots ≤ mostDots → LineFits l
+    → capOf dots (restOf (letterOf letter) takersOnly l gain) ≤ mostDots
+rest-cap-le letter takersOnly dots gain l d f =
+    let t = restOf (letterOf letter) takersOnly l gain in
     cond-le (t .affected) (capIn dots (t .room)) mostDots (rest-room-le letter dots gain l d f)
 
 -- ---- both shares of a letter
@@ -219,10 +219,10 @@ module _ (letter : Letter) (extra : ℕ) (ls : List Line) (gs : List ℕ) (left 
   pub first-le : (i : ℕ) → getD gs i 0 + left ≤ extra
   first-le i = rw (first .0, first .1) (gain-add-left-le extra (map (firstTrack (letterOf letter)) ls) (first-fresh (letterOf letter) ls) i)
 
-  pub both-shares : (narrow : Bool) (hs : List ℕ) → narrow ≡ some (isTaker (letterOf letter)) ls → hs ≡ moreGains gs (fill left (restTracks (letterOf letter) narrow ls gs))
+  pub both-shares : (takersOnly : Bool) (hs : List ℕ) → takersOnly ≡ some (isTaker (letterOf letter)) ls → hs ≡ moreGains gs (fill left (restTracks (letterOf letter) takersOnly ls gs))
       → hs ≡ shares (letterOf letter) extra ls
   unfolding shares restTracks
-  both-shares narrow hs n e =
+  both-shares takersOnly hs n e =
       e
       ∙ ap (λ (b : Bool). moreGains gs (fill left (restTracks (letterOf letter) b ls gs))) n
       ∙ ap₂ (λ (ys : List ℕ) (d : ℕ). moreGains ys (fill d (restTracks (letterOf letter) (some (isTaker (letterOf letter)) ls) ls ys))) (first .0) (first .1)

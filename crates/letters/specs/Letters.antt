@@ -21,13 +21,13 @@ letterOf E = letterE
 letterOf F = letterF
 
 -- whether it may change a line that gets no increase
-abbrev pub settles : Letter → Bool
-settles A = false
-settles B = false
-settles C = false
-settles D = true
-settles E = true
-settles F = true
+abbrev pub changesUnraised : Letter → Bool
+changesUnraised A = false
+changesUnraised B = false
+changesUnraised C = false
+changesUnraised D = true
+changesUnraised E = true
+changesUnraised F = true
 
 abbrev pub byMinimum : Minimum → Bool → Bool → Bool → Bool
 byMinimum (minimum.Fixed n) auto least most = false

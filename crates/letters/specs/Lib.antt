@@ -1,3 +1,4 @@
 pub mod Letters
+pub mod Increases
 pub mod Shares
 pub mod Totals

@@ -1,11 +1,12 @@
 // What an item contributes to a letter, and the dots that it asks beyond the sizes it spans.
 use crate::letter::Letter;
 use kinds::Constraint;
+use kinds::ContributionKind;
 use kinds::Maximum;
 use lines::Limit;
 use lines::Line;
 use lines::Measured;
-use lines::larger;
+use rounds::larger;
 ghost use mathlib.Core.Path.{_≡_};
 ghost use mathlib.Core.List.{map};
 ghost use Prim.Native.Nat.{ℕ, _-_, _≤_};
@@ -59,7 +60,7 @@ fn limited(n: u32, item: Measured, lines: &[[u32; 8]]) -> u32
 {
     let most = maxima(lines);
     let cut = most.cut(n);
-    larger(item.minimum, cut)
+    larger(item.at(ContributionKind::Minimum), cut)
 }
 
 // The minimum contribution, or under a min- or max-content constraint the limited min-content one.
@@ -68,9 +69,9 @@ pub fn for_auto(constraint: Constraint, item: Measured, lines: &[[u32; 8]]) -> u
     ensures { λ r. ⌜ r ≡ forAuto constraint item (linesOf (now (lines .entry))) ⌝ }
 {
     match constraint {
-        Constraint::Definite(_) => item.minimum,
-        Constraint::MinContent => limited(item.min_content, item, lines),
-        Constraint::MaxContent => limited(item.min_content, item, lines),
+        Constraint::Definite(_) => item.at(ContributionKind::Minimum),
+        Constraint::MinContent => limited(item.at(ContributionKind::MinContent), item, lines),
+        Constraint::MaxContent => limited(item.at(ContributionKind::MinContent), item, lines),
     }
 }
 
@@ -80,27 +81,12 @@ fn contribution(letter: Letter, constraint: Constraint, item: Measured, lines: &
 {
     match letter {
         Letter::A => for_auto(constraint, item, lines),
-        Letter::B => item.min_content,
-        Letter::C => limited(item.max_content, item, lines),
-        Letter::D => item.max_content,
-        Letter::E => item.min_content,
-        Letter::F => item.max_content,
+        Letter::B => item.at(ContributionKind::MinContent),
+        Letter::C => limited(item.at(ContributionKind::MaxContent), item, lines),
+        Letter::D => item.at(ContributionKind::MaxContent),
+        Letter::E => item.at(ContributionKind::MinContent),
+        Letter::F => item.at(ContributionKind::MaxContent),
     }
-}
-
-// The sizes that a letter measures against, all together.
-pub fn present_total(letter: Letter, lines: &[[u32; 8]]) -> u64
-    requires { ⌜ length (now lines) ≤ mostTracks ⌝ }
-    ensures { λ r. ⌜ r ≡ sum (map (letterOf letter .present) (linesOf (now (lines .entry)))) ⌝ }
-{
-    let mut total: u64 = 0;
-    let mut i = 0;
-    while i < lines.len() {
-        let size = letter.present(Line::of_row(lines[i]));
-        total += size as u64;
-        i += 1;
-    }
-    total
 }
 
 // So many dots without a total, at least 0.
@@ -122,7 +108,9 @@ pub fn extra(
     lines: &[[u32; 8]],
     total: u64,
 ) -> u32
-    requires { ⌜ (length (now lines) ≤ mostTracks) × LinesFit (linesOf (now lines)) × (total ≡ sum (map (letterOf letter .present) (linesOf (now lines)))) ⌝ }
+    requires { ⌜ (length (now lines) ≤ mostTracks)
+        × LinesFit (linesOf (now lines))
+        × (total ≡ sum (map (letterOf letter .present) (linesOf (now lines)))) ⌝ }
     ensures { λ r. ⌜ r ≡ extraOf (letterOf letter) constraint item (linesOf (now (lines .entry))) ⌝ }
 {
     let asked = contribution(letter, constraint, item, lines);

@@ -8,7 +8,7 @@ ghost use mathlib.Core.Path.{_≡_};
 ghost use Prim.Native.Nat.{_+_, _≤_};
 ghost use Rattle.lines.specs.Rows.{lineOf, roomOf};
 ghost use Rattle.lines.specs.Rule.{limitSize, grownBase, grownLimit, limitRoom};
-ghost use Rattle.letters.specs.Letters.{byMinimum, byMaximum, letterOf, settles, most};
+ghost use Rattle.letters.specs.Letters.{byMinimum, byMaximum, letterOf, changesUnraised, most};
 
 pub enum Letter {
     A,
@@ -59,7 +59,7 @@ fn limit_room(line: Line) -> Limit
     match limit {
         Limit::None => room,
         Limit::UpTo(_) => {
-            if line.grows {
+            if line.growable {
                 return room;
             }
             Limit::UpTo(0)
@@ -139,8 +139,8 @@ impl Letter {
     }
 
     // Whether it may change a line that gets no increase: (d) lifts limits, (e) and (f) take marks away.
-    pub fn settles(self) -> bool
-        ensures { λ r. ⌜ r ≡ settles self ⌝ }
+    pub fn changes_unraised(self) -> bool
+        ensures { λ r. ⌜ r ≡ changesUnraised self ⌝ }
     {
         match self {
             Letter::A => false,
@@ -174,7 +174,7 @@ fn grown_base(row: [u32; 8], increase: u32) -> [u32; 8]
 {
     let line = Line::of_row(row);
     let limit = line.limit;
-    with_sizes(row, line.base + increase, limit, line.grows)
+    with_sizes(row, line.base + increase, limit, line.growable)
 }
 
 // A missing limit becomes base plus increase, if there is one, and is then infinitely growable where the letter marks.

@@ -4,22 +4,21 @@ use crate::letter::Letter;
 use kinds::Maximum;
 use lines::Limit;
 use lines::Line;
-use lines::less;
-use rounds::Rounds;
+use rounds::less;
 use rounds::run_rounds;
 ghost use mathlib.Core.Path.{_≡_};
 ghost use mathlib.Core.Bool.{cond, not, _&&_, _||_};
 ghost use mathlib.Core.List.{[], _∷_, map, zipWith};
-ghost use Prim.Native.Nat.{ℕ, _+_, _≤_};
-ghost use lib.ListN.{length, getD};
+ghost use Prim.Native.Nat.{_+_, _≤_};
+ghost use lib.ListN.{length};
 ghost use Rattle.laws.specs.Lists.{some};
-ghost use Rattle.rounds.specs.Rule.{mostTracks, mostDots, gainsOf, fill};
+ghost use Rattle.rounds.specs.Rule.{mostDots, gainsOf};
 ghost use Rattle.rounds.specs.Rests.{capIn, capOf, caps, lost};
-ghost use Rattle.lines.specs.Rule.{maxIn, firstTrack, moreGains, shares};
+ghost use Rattle.lines.specs.Rule.{maxIn, moreGains, shares};
 ghost use Rattle.lines.specs.Rows.{linesOf, roomOf};
 ghost use Rattle.lines.specs.Fits.{LinesFit};
-ghost use Rattle.letters.specs.Letters.{letterOf, most};
-ghost use Rattle.letters.specs.Shares.{trackIn, shareTracks, isTaker, restTracks};
+ghost use Rattle.letters.specs.Letters.{letterOf};
+ghost use Rattle.letters.specs.Shares.{trackIn, isTaker, firstCaps, firstFill, restCaps, restFill, shareFill, taken, Scratch, GainsFit, TakenFits};
 
 // What is shared out beside the letters: the dots of step 5, or those of step 7.
 pub enum Share {
@@ -37,14 +36,14 @@ fn cap_of(affected: bool, room: Limit, dots: u32) -> u32
     0
 }
 
-// Whether a track takes what remains of a letter's dots. `narrow` says that some affected track does before the others, so that
+// Whether a track takes what remains of a letter's dots. `takers_only` says that some affected track does before the others, so that
 // these do not.
-fn takes_rest(letter: Letter, narrow: bool, line: Line) -> bool
-    ensures { λ r. ⌜ r ≡ (letterOf letter .affected line && (letterOf letter .takes line || not narrow)) ⌝ }
+fn takes_rest(letter: Letter, takers_only: bool, line: Line) -> bool
+    ensures { λ r. ⌜ r ≡ (letterOf letter .affected line && (letterOf letter .takes line || not «takers_only»)) ⌝ }
 {
     let affected = letter.affected(line);
     let takes = letter.takes(line);
-    if narrow {
+    if takers_only {
         return affected & takes;
     }
     affected
@@ -90,8 +89,8 @@ fn load(share: Share, dots: u32, lines: &[[u32; 8]], rests: &mut [u32])
 
 // What each rest lost is gained.
 fn collect(share: Share, dots: u32, lines: &[[u32; 8]], rests: &[u32], gains: &mut [u32])
-    requires { ⌜ (length (now gains) ≡ length (now lines)) × (length (now rests) ≡ length (now lines)) × ((i : ℕ) → getD (now gains) i 0 + getD (lost (caps dots (shareTracks share (linesOf (now lines)) (now gains))) (now rests)) i 0 ≤ most) ⌝ }
-    ensures { λ _. ⌜ now (gains .exit) ≡ zipWith _+_ (now (gains .entry)) (lost (caps dots (shareTracks share (linesOf (now (lines .entry))) (now (gains .entry)))) (now (rests .entry))) ⌝ }
+    requires { ⌜ Scratch (now lines) (now gains) (now rests) × TakenFits share dots (now lines) (now gains) (now rests) ⌝ }
+    ensures { λ _. ⌜ now (gains .exit) ≡ zipWith _+_ (now (gains .entry)) (taken share dots (now (lines .entry)) (now (gains .entry)) (now (rests .entry))) ⌝ }
 {
     let mut i = 0;
     while i < gains.len() {
@@ -102,27 +101,29 @@ fn collect(share: Share, dots: u32, lines: &[[u32; 8]], rests: &[u32], gains: &m
     }
 }
 
-// The dots are filled in. What is left of them, and the rounds, come back.
+// The dots are filled in. The rounds come back.
 pub fn share_out(
     share: Share,
     dots: u32,
     lines: &[[u32; 8]],
     gains: &mut [u32],
     rests: &mut [u32],
-) -> Rounds
-    requires { ⌜ (length (now gains) ≡ length (now lines)) × (length (now rests) ≡ length (now lines)) × (length (now lines) ≤ mostTracks) × (dots ≤ mostDots) × ((i : ℕ) → getD (now gains) i 0 ≤ mostDots) ⌝ }
-    ensures { λ r. ⌜ (now (gains .exit) ≡ moreGains (now (gains .entry)) (fill dots (shareTracks share (linesOf (now (lines .entry))) (now (gains .entry))))) × (r .left ≡ fill dots (shareTracks share (linesOf (now (lines .entry))) (now (gains .entry))) .left) × (r .rounds ≡ fill dots (shareTracks share (linesOf (now (lines .entry))) (now (gains .entry))) .rounds) ⌝ }
+) -> u32
+    requires { ⌜ Scratch (now lines) (now gains) (now rests) × (dots ≤ mostDots) × GainsFit (now gains) ⌝ }
+    ensures { λ r. ⌜ (now (gains .exit) ≡ moreGains (now (gains .entry)) (shareFill share dots (now (lines .entry)) (now (gains .entry))))
+        × (r ≡ shareFill share dots (now (lines .entry)) (now (gains .entry)) .rounds) ⌝ }
 {
     load(share, dots, lines, rests);
     let done = run_rounds(dots, rests);
     collect(share, dots, lines, rests, gains);
-    done
+    done.rounds
 }
 
 // The caps of a letter's first share: the rounds run on the rests, and the gains keep them.
 fn load_first(letter: Letter, dots: u32, lines: &[[u32; 8]], gains: &mut [u32], rests: &mut [u32])
-    requires { ⌜ (length (now gains) ≡ length (now lines)) × (length (now rests) ≡ length (now lines)) ⌝ }
-    ensures { λ _. ⌜ (now (gains .exit) ≡ caps dots (map (firstTrack (letterOf letter)) (linesOf (now (lines .entry))))) × (now (rests .exit) ≡ caps dots (map (firstTrack (letterOf letter)) (linesOf (now (lines .entry))))) ⌝ }
+    requires { ⌜ Scratch (now lines) (now gains) (now rests) ⌝ }
+    ensures { λ _. ⌜ (now (gains .exit) ≡ firstCaps letter dots (now (lines .entry)))
+        × (now (rests .exit) ≡ firstCaps letter dots (now (lines .entry))) ⌝ }
 {
     let mut i = 0;
     while i < lines.len() {
@@ -155,8 +156,9 @@ fn share_first(
     gains: &mut [u32],
     rests: &mut [u32],
 ) -> u32
-    requires { ⌜ (length (now gains) ≡ length (now lines)) × (length (now rests) ≡ length (now lines)) × (length (now lines) ≤ mostTracks) ⌝ }
-    ensures { λ r. ⌜ (now (gains .exit) ≡ gainsOf (fill dots (map (firstTrack (letterOf letter)) (linesOf (now (lines .entry)))) .tracks)) × (r ≡ fill dots (map (firstTrack (letterOf letter)) (linesOf (now (lines .entry)))) .left) ⌝ }
+    requires { ⌜ Scratch (now lines) (now gains) (now rests) ⌝ }
+    ensures { λ r. ⌜ (now (gains .exit) ≡ gainsOf (firstFill letter dots (now (lines .entry)) .tracks))
+        × (r ≡ firstFill letter dots (now (lines .entry)) .left) ⌝ }
 {
     load_first(letter, dots, lines, gains, rests);
     let done = run_rounds(dots, rests);
@@ -182,21 +184,22 @@ fn some_taker(letter: Letter, lines: &[[u32; 8]]) -> bool
 // The caps of what remains: the rounds run on the rests, and each gain has its cap on top.
 fn load_rest(
     letter: Letter,
-    narrow: bool,
+    takers_only: bool,
     dots: u32,
     lines: &[[u32; 8]],
     gains: &mut [u32],
     rests: &mut [u32],
 )
-    requires { ⌜ (length (now gains) ≡ length (now lines)) × (length (now rests) ≡ length (now lines)) × (dots ≤ mostDots) × ((i : ℕ) → getD (now gains) i 0 ≤ mostDots) × LinesFit (linesOf (now lines)) ⌝ }
-    ensures { λ _. ⌜ (now (gains .exit) ≡ zipWith _+_ (now (gains .entry)) (caps dots (restTracks (letterOf letter) narrow (linesOf (now (lines .entry))) (now (gains .entry))))) × (now (rests .exit) ≡ caps dots (restTracks (letterOf letter) narrow (linesOf (now (lines .entry))) (now (gains .entry)))) ⌝ }
+    requires { ⌜ Scratch (now lines) (now gains) (now rests) × (dots ≤ mostDots) × GainsFit (now gains) × LinesFit (linesOf (now lines)) ⌝ }
+    ensures { λ _. ⌜ (now (gains .exit) ≡ zipWith _+_ (now (gains .entry)) (restCaps letter «takers_only» dots (now (lines .entry)) (now (gains .entry))))
+        × (now (rests .exit) ≡ restCaps letter «takers_only» dots (now (lines .entry)) (now (gains .entry))) ⌝ }
 {
     let mut i = 0;
     while i < lines.len() {
         let line = Line::of_row(lines[i]);
         let gain = gains[i];
         let cap = cap_of(
-            takes_rest(letter, narrow, line),
+            takes_rest(letter, takers_only, line),
             letter.rest_room(line, gain),
             dots,
         );
@@ -209,16 +212,16 @@ fn load_rest(
 // What remains of a letter's dots, on top of the gains of the first share.
 fn share_rest(
     letter: Letter,
-    narrow: bool,
+    takers_only: bool,
     dots: u32,
     lines: &[[u32; 8]],
     gains: &mut [u32],
     rests: &mut [u32],
 )
-    requires { ⌜ (length (now gains) ≡ length (now lines)) × (length (now rests) ≡ length (now lines)) × (length (now lines) ≤ mostTracks) × (dots ≤ mostDots) × ((i : ℕ) → getD (now gains) i 0 ≤ mostDots) × LinesFit (linesOf (now lines)) ⌝ }
-    ensures { λ _. ⌜ now (gains .exit) ≡ moreGains (now (gains .entry)) (fill dots (restTracks (letterOf letter) narrow (linesOf (now (lines .entry))) (now (gains .entry)))) ⌝ }
+    requires { ⌜ Scratch (now lines) (now gains) (now rests) × (dots ≤ mostDots) × GainsFit (now gains) × LinesFit (linesOf (now lines)) ⌝ }
+    ensures { λ _. ⌜ now (gains .exit) ≡ moreGains (now (gains .entry)) (restFill letter «takers_only» dots (now (lines .entry)) (now (gains .entry))) ⌝ }
 {
-    load_rest(letter, narrow, dots, lines, gains, rests);
+    load_rest(letter, takers_only, dots, lines, gains, rests);
     run_rounds(dots, rests);
     take_off(rests, gains);
 }
@@ -231,13 +234,13 @@ pub fn share_extra(
     gains: &mut [u32],
     rests: &mut [u32],
 )
-    requires { ⌜ (length (now gains) ≡ length (now lines)) × (length (now rests) ≡ length (now lines)) × (length (now lines) ≤ mostTracks) × (extra ≤ mostDots) × LinesFit (linesOf (now lines)) ⌝ }
+    requires { ⌜ Scratch (now lines) (now gains) (now rests) × (extra ≤ mostDots) × LinesFit (linesOf (now lines)) ⌝ }
     ensures { λ _. ⌜ now (gains .exit) ≡ shares (letterOf letter) extra (linesOf (now (lines .entry))) ⌝ }
 {
     let left = share_first(letter, extra, lines, gains, rests);
     if left == 0 {
         return;
     }
-    let narrow = some_taker(letter, lines);
-    share_rest(letter, narrow, left, lines, gains, rests);
+    let takers_only = some_taker(letter, lines);
+    share_rest(letter, takers_only, left, lines, gains, rests);
 }

@@ -1,11 +1,12 @@
-// Running totals: before each line, and behind the last, the bases and the limits so far, so that what a span has together is
-// the difference of two places.
+// Totals: before each line, and behind the last, the bases and the limits so far, so that what a span has together is the difference of
+// two of them; and all the bases.
 use crate::letter::Letter;
 use lines::Line;
 ghost use mathlib.Core.Path.{_≡_};
 ghost use Prim.Native.Nat.{_+_, _-_, _≤_};
 ghost use lib.ListN.{length};
 ghost use Rattle.rounds.specs.Rule.{mostTracks};
+ghost use Rattle.lines.specs.Rule.{bases};
 ghost use Rattle.lines.specs.Rows.{linesOf};
 ghost use Rattle.letters.specs.Totals.{tallied, totalIn};
 
@@ -28,6 +29,21 @@ pub fn tally(lines: &[[u32; 8]], sums: &mut [[u64; 2]])
     sums[i] = [bases, limits];
 }
 
+// All the bases together.
+pub fn base_total(lines: &[[u32; 8]]) -> u64
+    requires { ⌜ length (now lines) ≤ mostTracks ⌝ }
+    ensures { λ r. ⌜ r ≡ bases (linesOf (now (lines .entry))) ⌝ }
+{
+    let mut total: u64 = 0;
+    let mut i = 0;
+    while i < lines.len() {
+        let line = Line::of_row(lines[i]);
+        total += line.base as u64;
+        i += 1;
+    }
+    total
+}
+
 impl Letter {
     // Of the two totals, that of the sizes which the letter measures against.
     fn total_in(self, sums: [u64; 2]) -> u64
@@ -45,7 +61,7 @@ impl Letter {
         }
     }
 
-    // The sizes between two places, all together.
+    // The sizes between two of the totals, all together.
     pub fn total_between(self, from: [u64; 2], to: [u64; 2]) -> u64
         requires { ⌜ totalIn self from ≤ totalIn self to ⌝ }
         ensures { λ r. ⌜ r ≡ totalIn self to - totalIn self from ⌝ }

@@ -1,12 +1,13 @@
 -- Lines that fit still fit after steps 1, 2 and 4, and there are as many of them. Assumes nothing.
-use mathlib.Core.Path.{_≡_, refl, ap, _∙_}
+use mathlib.Core.Path.{_≡_}
 use mathlib.Core.Bool.{Bool, false}
 use mathlib.Core.List.{List, [], _∷_}
-use Prim.Native.Nat.{ℕ, zero, suc, _≤_, min, zero-le}
+use Prim.Native.Nat.{ℕ, _≤_, min, zero-le}
 use native.Mathlib.Nat.{le-refl}
 use native.Mathlib.Omega.{arith}
 use lib.ListN.{length}
-use Rattle.laws.specs.Lists.{All, inTurn, changeAt}
+use Rattle.laws.specs.Lists.{All, inTurn}
+use Rattle.laws.specs.Changes.{all-change, length-change, in-turn-keeps-all, in-turn-long}
 use Rattle.laws.specs.Alls.{all-image}
 use Rattle.kinds.specs.Kinds.{minimumNumber, maximumNumber}
 use Rattle.kinds.specs.declared.constraint.Constraint.{Constraint}
@@ -16,18 +17,19 @@ use Rattle.kinds.specs.declared.track.Minimum.the-variants as minimum
 use Rattle.kinds.specs.declared.track.Maximum.{Maximum}
 use Rattle.kinds.specs.declared.track.Maximum.the-variants as maximum
 use Rattle.kinds.specs.declared.track.Track.{Track}
+use Rattle.kinds.specs.declared.item.ContributionKind.the-variants as kind
 use Rattle.spanned.specs.Rule.{mostSize}
 use Rattle.spanned.specs.Sound.{TrackFits, mostOf}
 use Rattle.lines.specs.declared.limit.Limit.{Limit}
 use Rattle.lines.specs.declared.limit.Limit.the-variants.{None, UpTo}
 use Rattle.lines.specs.declared.line.Line.{Line}
 use Rattle.lines.specs.declared.measured.Measured.{Measured}
-use Rattle.lines.specs.Rule.{line, withLimit, cut, orBase, limitSize, startBase, startLimit, atLeast, settled, start, maxima, limited, forAuto, baseAsked, limitWith, limitAsked, withItem, withItemAt, singles, missing}
+use Rattle.lines.specs.Rule.{contributionAt, line, withLimit, cut, orBase, limitSize, startBase, startLimit, atLeast, settled, start, maxima, limited, forAuto, baseAsked, limitWith, limitAsked, withItem, withItemAt, singles, missing}
 use Rattle.lines.specs.Rows.{limitNumber}
 use Rattle.lines.specs.Fits.{LineFits, LinesFit, MeasuredFits, MeasuredFit}
 
-line-fits : (t : Track) (base : ℕ) (limit : Limit) (grows : Bool) → TrackFits t → base ≤ mostSize → limitNumber limit ≤ mostSize → LineFits (line t base limit grows)
-line-fits t base limit grows f b m = record { track = f; base = b; limit = m }
+line-fits : (t : Track) (base : ℕ) (limit : Limit) (growable : Bool) → TrackFits t → base ≤ mostSize → limitNumber limit ≤ mostSize → LineFits (line t base limit growable)
+line-fits t base limit growable f b m = record { track = f; base = b; limit = m }
 
 -- ---- one line
 
@@ -65,19 +67,19 @@ cut-le : (limit : Limit) (n : ℕ) → cut limit n ≤ n
 cut-le None n = le-refl n
 cut-le (UpTo m) n = omega arith
 
-pub limited-le : (n k : ℕ) (i : Measured) (ls : List Line) → i .minimum ≤ k → n ≤ k → limited n i ls ≤ k
+pub limited-le : (n k : ℕ) (i : Measured) (ls : List Line) → contributionAt i kind.Minimum ≤ k → n ≤ k → limited n i ls ≤ k
 limited-le n k i ls h l = let c = cut-le (maxima ls) n in omega arith
 
 pub for-auto-le : (c : Constraint) (n : ℕ) (i : Measured) (ls : List Line) → MeasuredFits n i → forAuto c i ls ≤ mostSize
-for-auto-le (Definite d) n i ls f = f .minimum
-for-auto-le MinContent n i ls f = limited-le (i .«min_content») mostSize i ls (f .minimum) (f .min-content)
-for-auto-le MaxContent n i ls f = limited-le (i .«min_content») mostSize i ls (f .minimum) (f .min-content)
+for-auto-le (Definite d) n i ls f = f .contributions kind.Minimum
+for-auto-le MinContent n i ls f = limited-le (contributionAt i kind.MinContent) mostSize i ls (f .contributions kind.Minimum) (f .contributions kind.MinContent)
+for-auto-le MaxContent n i ls f = limited-le (contributionAt i kind.MinContent) mostSize i ls (f .contributions kind.Minimum) (f .contributions kind.MinContent)
 
 base-asked-le : (c : Constraint) (n : ℕ) (i : Measured) (l : Line) (m : Minimum) → MeasuredFits n i → baseAsked c i l m ≤ mostSize
 base-asked-le c n i l (minimum.Fixed k) f = zero-le
 base-asked-le c n i l minimum.Auto f = for-auto-le c n i (l ∷ []) f
-base-asked-le c n i l minimum.MinContent f = f .min-content
-base-asked-le c n i l minimum.MaxContent f = f .max-content
+base-asked-le c n i l minimum.MinContent f = f .contributions kind.MinContent
+base-asked-le c n i l minimum.MaxContent f = f .contributions kind.MaxContent
 
 limit-with-le : (n : ℕ) (limit : Limit) → n ≤ mostSize → limitNumber limit ≤ mostSize → limitNumber (limitWith n limit) ≤ mostSize
 limit-with-le n None h k = h
@@ -85,10 +87,10 @@ limit-with-le n (UpTo m) h k = omega arith
 
 limit-asked-le : (n : ℕ) (i : Measured) (limit : Limit) (m : Maximum) → MeasuredFits n i → limitNumber limit ≤ mostSize → limitNumber (limitAsked i limit m) ≤ mostSize
 limit-asked-le n i limit (maximum.Fixed k) f h = h
-limit-asked-le n i limit maximum.Auto f h = limit-with-le (i .«max_content») limit (f .max-content) h
-limit-asked-le n i limit maximum.MinContent f h = limit-with-le (i .«min_content») limit (f .min-content) h
-limit-asked-le n i limit maximum.MaxContent f h = limit-with-le (i .«max_content») limit (f .max-content) h
-limit-asked-le n i limit (maximum.FitContent k) f h = let m = f .max-content in limit-with-le (min k (i .«max_content»)) limit (omega arith) h
+limit-asked-le n i limit maximum.Auto f h = limit-with-le (contributionAt i kind.MaxContent) limit (f .contributions kind.MaxContent) h
+limit-asked-le n i limit maximum.MinContent f h = limit-with-le (contributionAt i kind.MinContent) limit (f .contributions kind.MinContent) h
+limit-asked-le n i limit maximum.MaxContent f h = limit-with-le (contributionAt i kind.MaxContent) limit (f .contributions kind.MaxContent) h
+limit-asked-le n i limit (maximum.FitContent k) f h = let m = f .contributions kind.MaxContent in limit-with-le (min k (contributionAt i kind.MaxContent)) limit (omega arith) h
 limit-asked-le n i limit (maximum.Fr k) f h = h
 
 with-item-line-fits : (c : Constraint) (n : ℕ) (i : Measured) (l : Line) → MeasuredFits n i → LineFits l → LineFits (withItem c i l)
@@ -98,18 +100,6 @@ with-item-line-fits c n i l f g =
     record { track = g .track; base = omega arith; limit = limit-asked-le n i (l .limit) (l .track .maximum) f (g .limit) }
 
 -- ---- all lines
-
-change-fits : (t : ℕ) (h : Line → Line) → ((l : Line) → LineFits l → LineFits (h l)) → (ls : List Line) → LinesFit ls → LinesFit (changeAt t h ls)
-unfolding All changeAt
-change-fits t h k [] f = f
-change-fits zero h k (l ∷ ls) f = (k l (f .0), f .1)
-change-fits (suc t) h k (l ∷ ls) f = (f .0, change-fits t h k ls (f .1))
-
-pub length-change : {A : Type 0} (t : ℕ) (h : A → A) (xs : List A) → length (changeAt t h xs) ≡ length xs
-unfolding changeAt
-length-change t h [] = refl
-length-change zero h (x ∷ xs) = refl
-length-change (suc t) h (x ∷ xs) = ap suc (length-change t h xs)
 
 -- 1. Start
 pub start-fits : (ts : List Track) → All TrackFits ts → LinesFit (start ts)
@@ -124,17 +114,13 @@ start-fits (t ∷ ts) f = (
 -- 2. Items in one track
 module _ (c : Constraint) (n : ℕ) where
   pub with-item-fits : (i : Measured) (ls : List Line) → MeasuredFits n i → LinesFit ls → LinesFit (withItemAt c i ls)
-  with-item-fits i ls f g = change-fits (i .start) (withItem c i) (λ l k. with-item-line-fits c n i l f k) ls g
+  with-item-fits i ls f g = all-change LineFits (withItem c i) (λ l k. with-item-line-fits c n i l f k) (i .start) ls g
 
   pub take-singles-fit : (is : List Measured) (ls : List Line) → MeasuredFit n is → LinesFit ls → LinesFit (inTurn (withItemAt c) is ls)
-  unfolding inTurn All
-  take-singles-fit [] ls f g = g
-  take-singles-fit (i ∷ is) ls f g = take-singles-fit is (withItemAt c i ls) (f .1) (with-item-fits i ls (f .0) g)
+  take-singles-fit is ls f g = in-turn-keeps-all LinesFit (withItemAt c) (MeasuredFits n) with-item-fits is ls f g
 
   pub length-take-singles : (is : List Measured) (ls : List Line) → length (inTurn (withItemAt c) is ls) ≡ length ls
-  unfolding inTurn
-  length-take-singles [] ls = refl
-  length-take-singles (i ∷ is) ls = length-take-singles is (withItemAt c i ls) ∙ length-change (i .start) (withItem c i) ls
+  length-take-singles is ls = in-turn-long (withItemAt c) (λ i on. length-change (i .start) (withItem c i) on) is ls
 
   pub singles-fit : (is : List Measured) (ls : List Line) → MeasuredFit n is → LinesFit ls → LinesFit (singles c is ls)
   unfolding singles

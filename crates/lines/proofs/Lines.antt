@@ -1,4 +1,4 @@
--- What rows and parts say: a row with sizes put in, and an item by its three contributions. Assumes nothing.
+-- What rows say: a row with sizes put in. Assumes nothing.
 use mathlib.Core.Path.{_≡_, refl, ap, ap₂, _∙_}
 use mathlib.Core.Bool.{Bool, true, false}
 use mathlib.Core.List.{[], _∷_}
@@ -7,11 +7,9 @@ use lib.Dec.{eqb}
 use lib.ListN.{getD}
 use Rattle.laws.specs.Marks.{bit}
 use Rattle.kinds.specs.Kinds.{Row, trackOf}
-use Rattle.kinds.specs.declared.amount.Amount.{Amount}
-use Rattle.kinds.specs.declared.amount.Amount.the-variants.{Absent, Given}
 use Rattle.lines.specs.declared.limit.Limit.{Limit}
 use Rattle.lines.specs.declared.limit.Limit.the-variants.{None, UpTo}
-use Rattle.lines.specs.Rule.{line, completeOf}
+use Rattle.lines.specs.Rule.{line}
 use Rattle.lines.specs.Rows.{limitOf, limitNumber, limitTag, lineOf}
 
 limit-of-told : (limit : Limit) → limitOf (limitTag limit) (limitNumber limit) ≡ limit
@@ -23,23 +21,10 @@ eqb-bit true = refl
 eqb-bit false = refl
 
 -- a row whose sizes are written anew, from what each of the numbers is
-pub line-of-sizes : (row : Row) (base number tag mark : ℕ) (limit : Limit) (grows : Bool)
-    → number ≡ limitNumber limit → tag ≡ limitTag limit → mark ≡ bit grows
-    → lineOf (getD row 0 0 ∷ getD row 1 0 ∷ getD row 2 0 ∷ getD row 3 0 ∷ base ∷ number ∷ tag ∷ mark ∷ []) ≡ line (trackOf row) base limit grows
-line-of-sizes row base number tag mark limit grows n t m =
+pub line-of-sizes : (row : Row) (base number tag mark : ℕ) (limit : Limit) (growable : Bool)
+    → number ≡ limitNumber limit → tag ≡ limitTag limit → mark ≡ bit growable
+    → lineOf (getD row 0 0 ∷ getD row 1 0 ∷ getD row 2 0 ∷ getD row 3 0 ∷ base ∷ number ∷ tag ∷ mark ∷ []) ≡ line (trackOf row) base limit growable
+line-of-sizes row base number tag mark limit growable n t m =
     ap₂ (λ (l : Limit) (g : Bool). line (trackOf row) base l g)
     (ap₂ limitOf t n ∙ limit-of-told limit)
-    (ap (λ (b : ℕ). eqb b 1) m ∙ eqb-bit grows)
-
-module _ (start span : ℕ) (a b c : Amount) where
-  pub lacks-minimum : a ≡ Absent → [] ≡ completeOf start span a b c
-  lacks-minimum e = rw e refl
-
-  pub lacks-min-content : (x : ℕ) → a ≡ Given x → b ≡ Absent → [] ≡ completeOf start span a b c
-  lacks-min-content x e f = rw (e, f) refl
-
-  pub lacks-max-content : (x y : ℕ) → a ≡ Given x → b ≡ Given y → c ≡ Absent → [] ≡ completeOf start span a b c
-  lacks-max-content x y e f g = rw (e, f, g) refl
-
-  pub lacks-none : (x y z : ℕ) → a ≡ Given x → b ≡ Given y → c ≡ Given z → completeOf start span (Given x) (Given y) (Given z) ≡ completeOf start span a b c
-  lacks-none x y z e f g = rw (e, f, g) refl
+    (ap (λ (b : ℕ). eqb b 1) m ∙ eqb-bit growable)

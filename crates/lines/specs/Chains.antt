@@ -1,11 +1,13 @@
--- The items of a batch as a chain: a first item, and beside each item the next one, or a number past the items at the end.
+-- The items of a batch as a chain: a first item, and beside each item the next one, or a number past the items at the end; and the
+-- batches by number, each from its head on.
 -- Assumes nothing.
 use mathlib.Core.Path.{_≡_}
-use Prim.Native.Nat.{ℕ, zero, suc, _<_}
+use Prim.Native.Nat.{ℕ, zero, suc, _+_, _<_}
 use mathlib.Core.Bool.{cond}
 use mathlib.Core.List.{List, [], _∷_, flatMap}
 use lib.Dec.{ltb}
 use lib.ListN.{length, getD}
+use Rattle.rounds.specs.Rule.{mostTracks}
 use Rattle.kinds.specs.Kinds.{Row, itemOf}
 use Rattle.lines.specs.declared.measured.Measured.{Measured}
 use Rattle.lines.specs.Rule.{complete}
@@ -40,3 +42,21 @@ pub record ChainFits (n : ℕ) (items : List Row) (nexts : List ℕ) (first : �
 -- an item at the head of a chain takes part
 abbrev pub Whole : List Row → List ℕ → ℕ → Type 0
 Whole items nexts first = first < length items → (i : Measured) × (is : List Measured) × (chained items nexts first ≡ i ∷ is)
+
+-- ---- The batches by number: none for items without part, one for each span, and the last for items on an fr track
+
+abbrev pub frBatch : ℕ
+frBatch = mostTracks + 1
+
+abbrev pub batches : ℕ
+batches = mostTracks + 2
+
+-- `heads` has the first item of each
+abbrev pub batchAt : List Row → (heads nexts : List ℕ) → ℕ → List Measured
+batchAt items heads nexts k = chained items nexts (getD heads k 0)
+
+-- every batch but the first fits a board of n tracks
+pub record BatchesFit (n : ℕ) (items : List Row) (heads nexts : List ℕ) : Type 0 where
+  pub heads-long : length heads ≡ batches
+  pub fits : (k : ℕ) → 0 < k → k < batches → ChainFits n items nexts (getD heads k 0)
+  pub whole : (k : ℕ) → 0 < k → k < batches → Whole items nexts (getD heads k 0)

@@ -3,10 +3,12 @@
 use Prim.Native.Nat.{ℕ, _+_, _≤_, _<_}
 use mathlib.Core.List.{List}
 use Rattle.laws.specs.Lists.{All}
+use Rattle.kinds.specs.declared.item.ContributionKind.{ContributionKind}
 use Rattle.spanned.specs.Rule.{mostSize, mostContribution}
 use Rattle.spanned.specs.Sound.{TrackFits}
 use Rattle.lines.specs.declared.line.Line.{Line}
 use Rattle.lines.specs.declared.measured.Measured.{Measured}
+use Rattle.lines.specs.Rule.{contributionAt}
 use Rattle.lines.specs.Rows.{limitNumber}
 
 pub record LineFits (l : Line) : Type 0 where
@@ -21,9 +23,7 @@ LinesFit = All LineFits
 pub record MeasuredFits (n : ℕ) (i : Measured) : Type 0 where
   pub within : i .start + i .span ≤ n
   pub spans : 0 < i .span
-  pub minimum : i .minimum ≤ mostContribution
-  pub min-content : i .«min_content» ≤ mostContribution
-  pub max-content : i .«max_content» ≤ mostContribution
+  pub contributions : (k : ContributionKind) → contributionAt i k ≤ mostContribution
 
 abbrev pub MeasuredFit : ℕ → List Measured → Type 0
 MeasuredFit n = All (MeasuredFits n)

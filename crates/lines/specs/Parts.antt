@@ -1,9 +1,14 @@
--- An item's part in the code's cases. Assumes nothing.
-use mathlib.Core.List.{List, [], _∷_}
+-- An item at work as the code makes it, from one that lacks no contribution. Assumes nothing.
+use mathlib.Core.List.{[], _∷_}
+use Rattle.kinds.specs.Kinds.{amountNumber, amountAt}
+use Rattle.kinds.specs.declared.item.ContributionKind.the-variants as kind
+use Rattle.kinds.specs.declared.item.Item.{Item}
 use Rattle.lines.specs.declared.measured.Measured.{Measured}
-use Rattle.lines.specs.declared.measured.Part.{Part}
-use Rattle.lines.specs.declared.measured.Part.the-variants.{LeftOut, Takes}
 
-abbrev pub partIs : Part → List Measured
-partIs LeftOut = []
-partIs (Takes i) = i ∷ []
+abbrev pub measuredOf : Item → Measured
+measuredOf i =
+    record {
+      start = i .start;
+      span = i .span;
+      row = amountNumber (amountAt i kind.Minimum) ∷ amountNumber (amountAt i kind.MinContent) ∷ amountNumber (amountAt i kind.MaxContent) ∷ [];
+    }

@@ -5,13 +5,13 @@ use Prim.Native.Nat.{ℕ, _+_, _-_, _*_, _/_, min, max}
 use mathlib.Core.Bool.{Bool, true, false, cond, not, _&&_, _||_}
 use mathlib.Core.List.{List, [], _∷_, map, zipWith, flatMap}
 use lib.Dec.{ltb, eqb}
-use lib.ListN.{length, take, drop, replicate}
+use lib.ListN.{length, getD, take, drop, replicate}
 use lib.IntN.{ℤ, subℕ}
 use Rattle.laws.specs.Lists.{among, upFrom, keep, some, every, changeAt, inTurn, largerFrom}
 use Rattle.laws.specs.Sums.{sum}
 use Rattle.rounds.specs.Rule.{Room, upTo, noLimit, Fill, fill, gainsOf}
 use Rattle.rounds.specs.Rule as fill
-use Rattle.kinds.specs.Kinds.{minimumTag, maximumTag, maximumNumber, amountAt}
+use Rattle.kinds.specs.Kinds.{minimumTag, maximumTag, maximumNumber, kindIndex, amountAt}
 use Rattle.kinds.specs.declared.amount.Amount.{Amount}
 use Rattle.kinds.specs.declared.amount.Amount.the-variants.{Absent, Given}
 use Rattle.kinds.specs.declared.constraint.Constraint.{Constraint}
@@ -21,6 +21,7 @@ use Rattle.kinds.specs.declared.track.Minimum.the-variants as minimum
 use Rattle.kinds.specs.declared.track.Maximum.{Maximum}
 use Rattle.kinds.specs.declared.track.Maximum.the-variants as maximum
 use Rattle.kinds.specs.declared.track.Track.{Track}
+use Rattle.kinds.specs.declared.item.ContributionKind.{ContributionKind}
 use Rattle.kinds.specs.declared.item.ContributionKind.the-variants as kind
 use Rattle.kinds.specs.declared.item.Item.{Item}
 use Rattle.spanned.specs.Rule.{isFr, isMeasured}
@@ -34,13 +35,13 @@ use Rattle.lines.specs.Fr.{frOf, noFr, largerFr, Flex, search}
 -- ---- Lines: a track at work has a base size and a growth limit, and its limit may be infinitely growable
 
 abbrev pub line : Track → ℕ → Limit → Bool → Line
-line track base limit grows = record { track = track; base = base; limit = limit; grows = grows }
+line track base limit growable = record { track = track; base = base; limit = limit; growable = growable }
 
 abbrev pub withBase : Line → ℕ → Line
-withBase l base = line (l .track) base (l .limit) (l .grows)
+withBase l base = line (l .track) base (l .limit) (l .growable)
 
 abbrev pub withLimit : Line → Limit → Line
-withLimit l limit = line (l .track) (l .base) limit (l .grows)
+withLimit l limit = line (l .track) (l .base) limit (l .growable)
 
 -- its minimum kind, or its maximum kind, is one of these
 abbrev pub minIn : List ℕ → Line → Bool
@@ -94,10 +95,14 @@ limitSize l = orBase (l .limit) (l .base)
 unfoldable pub bases : List Line → ℕ
 bases ls = sum (map (λ (l : Line). l .base) ls)
 
--- ---- Items: those that are measured take part, with the three contributions that refusal 9 makes sure of
+-- ---- Items: those that are measured take part, with the row of three contributions that refusal 9 makes sure of
+
+-- the contribution of a kind
+abbrev pub contributionAt : Measured → ContributionKind → ℕ
+contributionAt i k = getD (i .row) (kindIndex k) 0
 
 abbrev pub completeOf : ℕ → ℕ → Amount → Amount → Amount → List Measured
-completeOf start span (Given a) (Given b) (Given c) = record { start = start; span = span; minimum = a; «min_content» = b; «max_content» = c } ∷ []
+completeOf start span (Given a) (Given b) (Given c) = record { start = start; span = span; row = a ∷ b ∷ c ∷ [] } ∷ []
 completeOf start span (Given a) (Given b) Absent = []
 completeOf start span (Given a) Absent third = []
 completeOf start span Absent second third = []
@@ -153,20 +158,20 @@ maxima ls = cond (every (maxIn (1 ∷ 5 ∷ [])) ls) (UpTo (sum (map number ls))
 
 -- limited: cut to that sum, then raised to the minimum contribution
 abbrev pub limited : ℕ → Measured → List Line → ℕ
-limited n i ls = max (i .minimum) (cut (maxima ls) n)
+limited n i ls = max (contributionAt i kind.Minimum) (cut (maxima ls) n)
 
 -- for auto: the minimum contribution, or under a min- or max-content constraint the limited min-content one
 abbrev pub forAuto : Constraint → Measured → List Line → ℕ
-forAuto (Definite n) i ls = i .minimum
-forAuto MinContent i ls = limited (i .«min_content») i ls
-forAuto MaxContent i ls = limited (i .«min_content») i ls
+forAuto (Definite n) i ls = contributionAt i kind.Minimum
+forAuto MinContent i ls = limited (contributionAt i kind.MinContent) i ls
+forAuto MaxContent i ls = limited (contributionAt i kind.MinContent) i ls
 
 -- what an item asks of its track's base, by minimum kind
 abbrev pub baseAsked : Constraint → Measured → Line → Minimum → ℕ
 baseAsked c i l (minimum.Fixed n) = 0
 baseAsked c i l minimum.Auto = forAuto c i (l ∷ [])
-baseAsked c i l minimum.MinContent = i .«min_content»
-baseAsked c i l minimum.MaxContent = i .«max_content»
+baseAsked c i l minimum.MinContent = contributionAt i kind.MinContent
+baseAsked c i l minimum.MaxContent = contributionAt i kind.MaxContent
 
 -- the larger of a limit and a number; none gives way
 abbrev pub limitWith : ℕ → Limit → Limit
@@ -176,14 +181,14 @@ limitWith n (UpTo m) = UpTo (max n m)
 -- what an item makes of its track's limit, by maximum kind
 abbrev pub limitAsked : Measured → Limit → Maximum → Limit
 limitAsked i limit (maximum.Fixed n) = limit
-limitAsked i limit maximum.Auto = limitWith (i .«max_content») limit
-limitAsked i limit maximum.MinContent = limitWith (i .«min_content») limit
-limitAsked i limit maximum.MaxContent = limitWith (i .«max_content») limit
-limitAsked i limit (maximum.FitContent n) = limitWith (min n (i .«max_content»)) limit
+limitAsked i limit maximum.Auto = limitWith (contributionAt i kind.MaxContent) limit
+limitAsked i limit maximum.MinContent = limitWith (contributionAt i kind.MinContent) limit
+limitAsked i limit maximum.MaxContent = limitWith (contributionAt i kind.MaxContent) limit
+limitAsked i limit (maximum.FitContent n) = limitWith (min n (contributionAt i kind.MaxContent)) limit
 limitAsked i limit (maximum.Fr n) = limit
 
 abbrev pub withItem : Constraint → Measured → Line → Line
-withItem c i l = line (l .track) (max (l .base) (baseAsked c i l (l .track .minimum))) (limitAsked i (l .limit) (l .track .maximum)) (l .grows)
+withItem c i l = line (l .track) (max (l .base) (baseAsked c i l (l .track .minimum))) (limitAsked i (l .limit) (l .track .maximum)) (l .growable)
 
 abbrev pub withItemAt : Constraint → Measured → List Line → List Line
 withItemAt c i ls = changeAt (i .start) (withItem c i) ls
@@ -231,7 +236,7 @@ raisesBases contribution minima maxima grown =
 -- limits: those with none or infinitely growable take any amount, others have no room; a fit-content limit has room only
 -- up to the larger of its argument and its present size
 abbrev pub limitRoom : Line → Room
-limitRoom l = cond (isNone (l .limit) || l .grows) (roomTo (argument l) (limitSize l)) (upTo 0)
+limitRoom l = cond (isNone (l .limit) || l .growable) (roomTo (argument l) (limitSize l)) (upTo 0)
 
 -- a limit of none becomes base plus increase if the increase is above 0
 abbrev pub limitPlus : ℕ → ℕ → Limit → Limit
@@ -261,25 +266,25 @@ letterA = raisesBases forAuto (2 ∷ 3 ∷ 4 ∷ []) (2 ∷ 3 ∷ 4 ∷ []) grow
 
 -- (b) minima 3 and 4, min-content
 abbrev pub letterB : Letter
-letterB = raisesBases (λ (c : Constraint) (i : Measured) (on : List Line). i .«min_content») (3 ∷ 4 ∷ []) (2 ∷ 3 ∷ 4 ∷ []) grownBase
+letterB = raisesBases (λ (c : Constraint) (i : Measured) (on : List Line). contributionAt i kind.MinContent) (3 ∷ 4 ∷ []) (2 ∷ 3 ∷ 4 ∷ []) grownBase
 
 -- (c) minima 2 and 4, limited max-content
 abbrev pub letterC : Letter
-letterC = raisesBases (λ (c : Constraint) (i : Measured). limited (i .«max_content») i) (2 ∷ 4 ∷ []) (2 ∷ 4 ∷ []) grownBase
+letterC = raisesBases (λ (c : Constraint) (i : Measured). limited (contributionAt i kind.MaxContent) i) (2 ∷ 4 ∷ []) (2 ∷ 4 ∷ []) grownBase
 
 -- (d) minimum 4, max-content; then limit below base becomes base
 abbrev pub letterD : Letter
 letterD =
-    raisesBases (λ (c : Constraint) (i : Measured) (on : List Line). i .«max_content») (4 ∷ []) (2 ∷ 4 ∷ [])
+    raisesBases (λ (c : Constraint) (i : Measured) (on : List Line). contributionAt i kind.MaxContent) (4 ∷ []) (2 ∷ 4 ∷ [])
     (λ (l : Line) (increase : ℕ). settled (grownBase l increase))
 
 -- (e) limits of intrinsic maxima, min-content; it marks
 abbrev pub letterE : Letter
-letterE = raisesLimits true (λ (i : Measured). i .«min_content») (2 ∷ 3 ∷ 4 ∷ 5 ∷ [])
+letterE = raisesLimits true (λ (i : Measured). contributionAt i kind.MinContent) (2 ∷ 3 ∷ 4 ∷ 5 ∷ [])
 
 -- (f) limits of maxima 2, 4, 5, max-content; no mark outlives it
 abbrev pub letterF : Letter
-letterF = raisesLimits false (λ (i : Measured). i .«max_content») (2 ∷ 4 ∷ 5 ∷ [])
+letterF = raisesLimits false (λ (i : Measured). contributionAt i kind.MaxContent) (2 ∷ 4 ∷ 5 ∷ [])
 
 -- (c) under max-content only
 abbrev pub letters : Constraint → List Letter
@@ -397,16 +402,16 @@ basesFr ls = inTurn baseFr (keep (λ (l : Line). isFr (l .track)) ls) noFr
 
 -- for each item on an fr track, the search over its track to its max-content contribution
 abbrev pub itemFr : List Line → Measured → Fr → Fr
-itemFr ls i fr = largerFr (searchOver (i .«max_content») (spanned i ls)) fr
+itemFr ls i fr = largerFr (searchOver (contributionAt i kind.MaxContent) (spanned i ls)) fr
 
-unfoldable pub contentFr : List Track → List Measured → List Line → Fr
-contentFr ts is ls = inTurn (itemFr ls) (keep (onFr ts) is) (basesFr ls)
+unfoldable pub maxContentFr : List Track → List Measured → List Line → Fr
+maxContentFr ts is ls = inTurn (itemFr ls) (keep (onFr ts) is) (basesFr ls)
 
 -- min-content, or definite with free space 0 or less: no growth
 unfoldable pub frFor : Constraint → List Track → List Measured → List Line → Fr
 frFor (Definite n) ts is ls = cond (ltb (bases ls) n) (searchOver n ls) noFr
 frFor MinContent ts is ls = noFr
-frFor MaxContent ts is ls = contentFr ts is ls
+frFor MaxContent ts is ls = maxContentFr ts is ls
 
 -- an fr track becomes the larger of base and factor times fr, rounded down
 abbrev pub flexed : Fr → Line → Line
@@ -439,16 +444,16 @@ freeOf MinContent ls = none
 freeOf MaxContent ls = none
 
 -- what is told of a track: its base and its limit
-abbrev pub placeOf : Line → List ℕ
-placeOf l = l .base ∷ limitSize l ∷ []
+abbrev pub sizesOf : Line → List ℕ
+sizesOf l = l .base ∷ limitSize l ∷ []
 
 pub record Board : Type 0 where
-  pub places : List (List ℕ)
+  pub sizes : List (List ℕ)
   pub free : FreeTold
   pub rounds : ℕ
 
 abbrev pub boardOf : Constraint → ℕ → List Line → Board
-boardOf e rounds ls = record { places = map placeOf ls; free = freeOf e ls; rounds = rounds }
+boardOf e rounds ls = record { sizes = map sizesOf ls; free = freeOf e ls; rounds = rounds }
 
 -- steps 6 and 7, in an expansion space, stretched if asked
 unfoldable pub finish : (expansion : Constraint) (asked : Bool) → List Track → List Measured → List Line → List Line

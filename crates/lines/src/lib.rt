@@ -7,14 +7,9 @@ mod passes;
 
 pub use fr::Fr;
 pub use limit::Limit;
-pub use limit::larger;
-pub use limit::less;
-pub use limit::smaller;
 pub use line::Line;
 pub use line::with_sizes;
 pub use measured::Measured;
-pub use measured::Part;
-pub use measured::part_of;
 pub use passes::Pass;
 pub use passes::pass_over;
 pub use passes::settled;

@@ -1,6 +1,9 @@
 // A growth limit, or a room: so many dots, or none, which is a case of its own and no number.
+use rounds::larger;
+use rounds::less;
+use rounds::smaller;
 ghost use mathlib.Core.Path.{_≡_};
-ghost use Prim.Native.Nat.{_+_, _-_, min, max};
+ghost use Prim.Native.Nat.{_+_};
 ghost use Rattle.rounds.specs.Rests.{capIn};
 ghost use Rattle.lines.specs.Rule.{cut, cutLimit, roomTo, orBase, atLeast, limitWith};
 ghost use Rattle.lines.specs.Rows.{limitOf, roomOf};
@@ -8,25 +11,6 @@ ghost use Rattle.lines.specs.Rows.{limitOf, roomOf};
 pub enum Limit {
     None,
     UpTo(u32),
-}
-
-pub fn smaller(a: u32, b: u32) -> u32
-    ensures { λ r. ⌜ r ≡ min a b ⌝ }
-{
-    if a < b { a } else { b }
-}
-
-pub fn larger(a: u32, b: u32) -> u32
-    ensures { λ r. ⌜ r ≡ max a b ⌝ }
-{
-    if a < b { b } else { a }
-}
-
-// x without k, at least 0.
-pub fn less(x: u32, k: u32) -> u32
-    ensures { λ r. ⌜ r ≡ x - k ⌝ }
-{
-    if x < k { 0 } else { x - k }
 }
 
 impl Limit {

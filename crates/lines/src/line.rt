@@ -4,8 +4,8 @@ use crate::limit::Limit;
 use kinds::Maximum;
 use kinds::Minimum;
 use kinds::Track;
+use kinds::bit;
 ghost use mathlib.Core.Path.{_≡_};
-ghost use Rattle.laws.specs.Marks.{bit};
 ghost use Rattle.kinds.specs.Kinds.{trackOf};
 ghost use Rattle.lines.specs.Rule.{line, argument, limitSize, baseRoom, startBase, startLimit, startLine};
 ghost use Rattle.lines.specs.Rows.{lineOf, limitNumber, limitTag, roomOf};
@@ -14,7 +14,7 @@ pub struct Line {
     pub track: Track,
     pub base: u32,
     pub limit: Limit,
-    pub grows: bool,
+    pub growable: bool,
 }
 
 impl Line {
@@ -27,7 +27,7 @@ impl Line {
             track,
             base: row[4],
             limit,
-            grows: row[7] == 1,
+            growable: row[7] == 1,
         }
     }
 
@@ -66,12 +66,6 @@ impl Line {
     }
 }
 
-fn bit(mark: bool) -> u32
-    ensures { λ r. ⌜ r ≡ bit mark ⌝ }
-{
-    if mark { 1 } else { 0 }
-}
-
 fn limit_number(limit: Limit) -> u32
     ensures { λ r. ⌜ r ≡ limitNumber limit ⌝ }
 {
@@ -91,12 +85,12 @@ fn limit_tag(limit: Limit) -> u32
 }
 
 // The row with another base, limit and mark; the kinds stay.
-pub fn with_sizes(row: [u32; 8], base: u32, limit: Limit, grows: bool) -> [u32; 8]
-    ensures { λ r. ⌜ lineOf r ≡ line (lineOf row .track) base limit grows ⌝ }
+pub fn with_sizes(row: [u32; 8], base: u32, limit: Limit, growable: bool) -> [u32; 8]
+    ensures { λ r. ⌜ lineOf r ≡ line (lineOf row .track) base limit growable ⌝ }
 {
     let number = limit_number(limit);
     let tag = limit_tag(limit);
-    let mark = bit(grows);
+    let mark = bit(growable);
     [row[0], row[1], row[2], row[3], base, number, tag, mark]
 }
 

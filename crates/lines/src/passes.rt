@@ -36,7 +36,7 @@ pub fn settled(row: [u32; 8]) -> [u32; 8]
 {
     let line = Line::of_row(row);
     let limit = line.limit;
-    with_sizes(row, line.base, limit.at_least(line.base), line.grows)
+    with_sizes(row, line.base, limit.at_least(line.base), line.growable)
 }
 
 fn passed(pass: Pass, row: [u32; 8]) -> [u32; 8]
@@ -47,8 +47,8 @@ fn passed(pass: Pass, row: [u32; 8]) -> [u32; 8]
     let size = line.limit_size();
     match pass {
         Pass::Settle => settled(row),
-        Pass::Missing => with_sizes(row, line.base, Limit::UpTo(size), line.grows),
-        Pass::ToLimits => with_sizes(row, size, limit, line.grows),
+        Pass::Missing => with_sizes(row, line.base, Limit::UpTo(size), line.growable),
+        Pass::ToLimits => with_sizes(row, size, limit, line.growable),
     }
 }
 

@@ -12,7 +12,7 @@ use Rattle.laws.specs.Runs.{runs}
 use Rattle.laws.specs.Sums.{sum}
 use Rattle.laws.specs.Lists.{among, upFrom, keep, some, every, changeAt, inTurn, larger, largerFrom}
 use Rattle.rounds.specs.Rule.{Room, upTo, noLimit, Track, gainsOf, opens, leastRoom, oddTakers, handOut, Fill, round, more, fill}
-use Rattle.sheet.specs.Rule.{isIn, rowAt, rowsAt, recordSize, taggedFault, rowFault, recordsFault, faultFrom, sheetFrom, sheetFault}
+use Rattle.sheet.specs.Rule.{rowAt, rowsAt, recordSize, taggedFault, rowFault, recordsFault, faultFrom, sheetFrom, sheetFault}
 use Rattle.checks.specs.Rule.{lowest, firstOf, recordFault}
 use Rattle.layout.specs.Rule.{BoardTold, BoardOutcome, layoutSizes, layoutCall}
 use Rattle.board.specs.Rule.{boardCall}
@@ -26,7 +26,7 @@ use Rattle.sheet_kinds.specs.declared.track.SheetTrack.{SheetTrack}
 use Rattle.sheet_kinds.specs.Kinds as sheet
 use Rattle.kinds.specs.declared.item.Item.{Item}
 use Rattle.lines.specs.Fr.{frNow, search}
-use Rattle.lines.specs.Rule.{FreeTold, none, dots, Board, bases, measuredItems, start, singles, shares, gainsBy, increases, raise, batched, longer, lastBatch, missing, content, maximise, searchOver, basesFr, contentFr, frFor, expand, stretched, finish, size}
+use Rattle.lines.specs.Rule.{FreeTold, none, dots, Board, bases, measuredItems, start, singles, shares, gainsBy, increases, raise, batched, longer, lastBatch, missing, content, maximise, searchOver, basesFr, maxContentFr, frFor, expand, stretched, finish, size}
 
 -- ---- Rows of the fill
 
@@ -58,8 +58,8 @@ across a b c = kinds.item 0 2 (kinds.contribution (Given a) ∷ kinds.contributi
 -- bases and its limits, the free space and the rounds; or a sheet's bytes, then the same.
 pub data Example : Type 0 where
   filling : (dots : ℕ) (tracks : List Track) (gains : List ℕ) (left rounds : ℕ) → Example
-  sizing : (space : Space) (tracks : List SheetTrack) (items : List Item) (places : List (List ℕ)) (free : ℤ) (rounds : ℕ) → Example
-  board : (bytes : List ℕ) (places : List (List ℕ)) (free : ℤ) (rounds : ℕ) → Example
+  sizing : (space : Space) (tracks : List SheetTrack) (items : List Item) (sizes : List (List ℕ)) (free : ℤ) (rounds : ℕ) → Example
+  board : (bytes : List ℕ) (sizes : List (List ℕ)) (free : ℤ) (rounds : ℕ) → Example
 
 abbrev pub w1 : Example
 w1 = filling 7 (track (upTo 10) ∷ track (upTo 10) ∷ track (upTo 10) ∷ []) (3 ∷ 2 ∷ 2 ∷ []) 0 2
@@ -135,7 +135,7 @@ abbrev pub sameFill : Fill → List ℕ → ℕ → ℕ → Bool
 sameFill f gains left rounds = sameNumbers (gainsOf (f .tracks)) gains && eqb (f .left) left && eqb (f .rounds) rounds
 
 abbrev pub sameBoard : Board → List (List ℕ) → ℤ → ℕ → Bool
-sameBoard b places free rounds = sameRows (b .places) places && sameFree (b .free) free && eqb (b .rounds) rounds
+sameBoard b sizes free rounds = sameRows (b .sizes) sizes && sameFree (b .free) free && eqb (b .rounds) rounds
 
 -- what the call leaves, where one place more than the tracks is lent: that one keeps what it holds
 abbrev pub lent : List (List ℕ)
@@ -146,16 +146,16 @@ sameTold (BoardTold.board tracks f n) free rounds = eqb tracks 1 && sameFree f f
 sameTold (BoardTold.refused number place) free rounds = false
 
 abbrev pub sameOutcome : BoardOutcome → List (List ℕ) → ℤ → ℕ → Bool
-sameOutcome o places free rounds = sameTold (o .told) free rounds && sameRows (o .places) (places ++ ((5 ∷ 6 ∷ []) ∷ []))
+sameOutcome o sizes free rounds = sameTold (o .told) free rounds && sameRows (o .sizes) (sizes ++ ((5 ∷ 6 ∷ []) ∷ []))
 
 abbrev pub holds : Example → Bool
 holds (filling n tracks gains left rounds) = sameFill (fill n tracks) gains left rounds
-holds (sizing space tracks items places free rounds) = sameBoard (layoutSizes space tracks items) places free rounds
-holds (board bytes places free rounds) = sameOutcome (boardCall bytes lent) places free rounds
+holds (sizing space tracks items sizes free rounds) = sameBoard (layoutSizes space tracks items) sizes free rounds
+holds (board bytes sizes free rounds) = sameOutcome (boardCall bytes lent) sizes free rounds
 
 -- every row holds
 unfoldable pub allHold : List Example → Bool
-unfolding number runs gainsOf opens leastRoom oddTakers handOut round more fill sum among upFrom keep some every changeAt inTurn larger largerFrom zipWith flatMap frNow search bases measuredItems start singles shares gainsBy increases raise batched longer lastBatch missing content maximise searchOver basesFr contentFr frFor expand stretched finish size isIn rowAt rowsAt recordSize taggedFault rowFault recordsFault faultFrom sheetFrom sheetFault lowest firstOf recordFault layoutCall boardCall
+unfolding number runs gainsOf opens leastRoom oddTakers handOut round more fill sum among upFrom keep some every changeAt inTurn larger largerFrom zipWith flatMap frNow search bases measuredItems start singles shares gainsBy increases raise batched longer lastBatch missing content maximise searchOver basesFr maxContentFr frFor expand stretched finish size rowAt rowsAt recordSize taggedFault rowFault recordsFault faultFrom sheetFrom sheetFault lowest firstOf recordFault layoutCall boardCall
 allHold [] = true
 allHold (e ∷ es) = holds e && allHold es
 

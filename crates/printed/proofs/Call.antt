@@ -1,4 +1,4 @@
--- The call, as its code goes: the board is sized in places of its own, and its text put at the front of the lent bytes. Assumes nothing.
+-- The call, as its code goes: the board is sized in sizes of its own, and its text put at the front of the lent bytes. Assumes nothing.
 use mathlib.Core.Path.{_≡_, refl, ap, ap₂, subst, _∙_}
 use mathlib.Core.List.{List}
 use Prim.Native.Nat.{ℕ, _≤_, _<_}
@@ -13,7 +13,7 @@ use Rattle.board.specs.Answer.{boardTold, boardLeaves}
 use Rattle.board.specs.declared.BoardAnswer.{BoardAnswer}
 use Rattle.board.specs.declared.BoardAnswer.the-variants as answer
 use Rattle.board.proofs.Tracks.{tracks-few}
-use Rattle.printed.specs.Rule.{answerText, outcomeText, ownPlaces, sheetText, noRoom, printed, printOutcome, mostText, printCall}
+use Rattle.printed.specs.Rule.{answerText, outcomeText, ownSizes, sheetText, noRoom, printed, printOutcome, mostText, printCall}
 use Rattle.printed.specs.Answer.{TracksWithin}
 use Rattle.printed.specs.Putting.{Putting}
 
@@ -21,13 +21,13 @@ pub call-no-room : (bytes lent : List ℕ) → length lent < mostText → printO
 unfolding printCall
 call-no-room bytes lent h = rw (lt-ltb (length lent) mostText h)
 
-module _ (bytes : List ℕ) (a : BoardAnswer) (left : List Row) (kept : boardLeaves a left ≡ boardCall bytes ownPlaces) where
-  -- the tracks of a board have places
+module _ (bytes : List ℕ) (a : BoardAnswer) (left : List Row) (kept : boardLeaves a left ≡ boardCall bytes ownSizes) where
+  -- the tracks of a board have sizes
   pub tracks-within : length left ≡ mostTracks → TracksWithin (boardTold a) left
   tracks-within n = go a refl
     where
       go : (b : BoardAnswer) → a ≡ b → TracksWithin (boardTold b) left
-      go (answer.Board tracks free rounds) e = rw n (tracks-few bytes ownPlaces a left tracks free rounds kept e)
+      go (answer.Board tracks free rounds) e = rw n (tracks-few bytes ownSizes a left tracks free rounds kept e)
       go (answer.Refused refusal) e = tt
 
   text-is : answerText (boardTold a) left ≡ sheetText bytes

@@ -36,7 +36,7 @@ line-after t (l ∷ lines) place =
     ∙ ap (λ (k : ℕ). trackLine t l ++ trackLines (t + 1) lines ++ trackLine k place) (omega arith)
 
 -- the line of track t behind those of the tracks before it
-pub lines-turn : (places : List Row) (t : ℕ) → t < length places → trackLines 0 (take t places) ++ trackLine t (getD places t []) ≡ trackLines 0 (take (t + 1) places)
-lines-turn places t l =
-    sym (line-after 0 (take t places) (getD places t []) ∙ ap (λ (k : ℕ). trackLines 0 (take t places) ++ trackLine k (getD places t [])) (omega (arith, length-take-le t places (omega arith))))
-    ∙ ap (trackLines 0) (sym (rw (add-one, take-suc places t [])))
+pub lines-turn : (sizes : List Row) (t : ℕ) → t < length sizes → trackLines 0 (take t sizes) ++ trackLine t (getD sizes t []) ≡ trackLines 0 (take (t + 1) sizes)
+lines-turn sizes t l =
+    sym (line-after 0 (take t sizes) (getD sizes t []) ∙ ap (λ (k : ℕ). trackLines 0 (take t sizes) ++ trackLine k (getD sizes t [])) (omega (arith, length-take-le t sizes (omega arith))))
+    ∙ ap (trackLines 0) (sym (rw (add-one, take-suc sizes t [])))

@@ -15,7 +15,7 @@ printTold NoRoom = noRoom
 abbrev pub printLeaves : PrintAnswer → List ℕ → PrintOutcome
 printLeaves answer bytes = printOutcome (printTold answer) bytes
 
--- the tracks that are told have places
+-- the tracks that are told have sizes
 abbrev pub TracksWithin : BoardTold → List Row → Type 0
-TracksWithin (board tracks free rounds) places = tracks ≤ length places
-TracksWithin (refused number place) places = Unit {0}
+TracksWithin (board tracks free rounds) sizes = tracks ≤ length sizes
+TracksWithin (refused number place) sizes = Unit {0}

@@ -40,6 +40,22 @@ signed (negsuc n) = word "-" ++ decimal (suc n)
 
 -- ---- An answer
 
+-- the longest of each: a number of 64 bits, one with a sign or a byte behind it, and the lines
+abbrev pub mostDigits : ℕ
+mostDigits = 20
+
+abbrev pub mostCell : ℕ
+mostCell = 21
+
+abbrev pub mostBoardLine : ℕ
+mostBoardLine = 83
+
+abbrev pub mostTrackLine : ℕ
+mostTrackLine = 63
+
+abbrev pub mostRefusalLine : ℕ
+mostRefusalLine = 53
+
 -- the signed difference, or `none` if not definite
 abbrev pub freeText : FreeTold → List ℕ
 freeText none = word "none"
@@ -52,32 +68,32 @@ boardLine tracks free rounds =
 
 -- a line for each track: its number, its base and its limit
 abbrev pub trackLine : ℕ → Row → List ℕ
-trackLine t place = decimal t ++ (word " " ++ (decimal (getD place 0 0) ++ (word " " ++ (decimal (getD place 1 0) ++ word "\n"))))
+trackLine t row = decimal t ++ (word " " ++ (decimal (getD row 0 0) ++ (word " " ++ (decimal (getD row 1 0) ++ word "\n"))))
 
 -- those from track t on
 unfoldable pub trackLines : ℕ → List Row → List ℕ
 trackLines t [] = []
-trackLines t (place ∷ places) = trackLine t place ++ trackLines (t + 1) places
+trackLines t (row ∷ sizes) = trackLine t row ++ trackLines (t + 1) sizes
 
 -- a refusal prints one line
 abbrev pub refusalLine : ℕ → ℕ → List ℕ
 refusalLine number place = word "refused " ++ (decimal number ++ (word " at " ++ (decimal place ++ word "\n")))
 
--- what is printed of an answer; the tracks' places are the first ones
+-- what is printed of an answer; the tracks' sizes are the first ones
 abbrev pub answerText : BoardTold → List Row → List ℕ
-answerText (board tracks free rounds) places = boardLine tracks free rounds ++ trackLines 0 (take tracks places)
-answerText (refused number place) places = refusalLine number place
+answerText (board tracks free rounds) sizes = boardLine tracks free rounds ++ trackLines 0 (take tracks sizes)
+answerText (refused number place) sizes = refusalLine number place
 
 abbrev pub outcomeText : BoardOutcome → List ℕ
-outcomeText o = answerText (o .told) (o .places)
+outcomeText o = answerText (o .told) (o .sizes)
 
--- ---- The text of a sheet: its board is sized in places of the program's own, as many as a board has tracks at most
+-- ---- The text of a sheet: its board is sized in sizes of the program's own, as many as a board has tracks at most
 
-abbrev pub ownPlaces : List Row
-ownPlaces = replicate mostTracks (0 ∷ 0 ∷ [])
+abbrev pub ownSizes : List Row
+ownSizes = replicate mostTracks (0 ∷ 0 ∷ [])
 
 abbrev pub sheetText : List ℕ → List ℕ
-sheetText bytes = outcomeText (boardCall bytes ownPlaces)
+sheetText bytes = outcomeText (boardCall bytes ownSizes)
 
 -- What a call leaves: the text's length, or that there is no room for it; and what stands in the lent bytes after it.
 pub data PrintTold : Type 0 where
@@ -91,9 +107,9 @@ pub record PrintOutcome : Type 0 where
 abbrev pub printOutcome : PrintTold → List ℕ → PrintOutcome
 printOutcome told bytes = record { told = told; bytes = bytes }
 
--- as many bytes as any text takes: 83 for the first line, and 63 for each track
+-- as many bytes as any text takes
 abbrev pub mostText : ℕ
-mostText = 83 + 63 * mostTracks
+mostText = mostBoardLine + mostTrackLine * mostTracks
 
 unfoldable pub printCall : List ℕ → List ℕ → PrintOutcome
 printCall bytes lent =
@@ -119,6 +135,10 @@ quoted name = word "'" ++ (flatMap shown name ++ word "'")
 abbrev pub messageText : List ℕ → List ℕ → List ℕ
 messageText name words = word "reader: " ++ (quoted name ++ words)
 
+-- the reader's own name and two quotes, around the rest
+abbrev pub mostFrame : ℕ
+mostFrame = 10
+
 -- a name of 4,096 bytes and words of 128 at most, and room for any such message
 abbrev pub mostName : ℕ
 mostName = 4096
@@ -127,7 +147,7 @@ abbrev pub mostWords : ℕ
 mostWords = 128
 
 abbrev pub mostMessage : ℕ
-mostMessage = 10 + 4 * mostName + mostWords
+mostMessage = mostFrame + 4 * mostName + mostWords
 
 abbrev pub fitsMessage : ℕ → ℕ → ℕ → Bool
 fitsMessage name words lent = leb name mostName && (leb words mostWords && leb mostMessage lent)

@@ -10,13 +10,13 @@ ghost use Prim.Native.Nat.{_+_, _*_, _≤_};
 ghost use lib.ListN.{length, take};
 ghost use Rattle.sizing.specs.Size.{freeTold};
 ghost use Rattle.board.specs.Answer.{boardTold};
-ghost use Rattle.printed.specs.Rule.{freeText, boardLine, trackLine, trackLines, refusalLine, answerText};
+ghost use Rattle.printed.specs.Rule.{mostCell, mostBoardLine, mostTrackLine, mostRefusalLine, freeText, boardLine, trackLine, trackLines, refusalLine, answerText};
 ghost use Rattle.printed.specs.Putting.{Putting};
 ghost use Rattle.printed.specs.Answer.{TracksWithin};
 
 fn put_free(at: usize, free: Free, into: &mut [u8]) -> usize
-    requires { ⌜ at + 21 ≤ length (now into) ⌝ }
-    ensures { λ r. ⌜ Putting 21 at (freeText (freeTold free)) (now (into .entry)) (now (into .exit)) r ⌝ }
+    requires { ⌜ at + mostCell ≤ length (now into) ⌝ }
+    ensures { λ r. ⌜ Putting mostCell at (freeText (freeTold free)) (now (into .entry)) (now (into .exit)) r ⌝ }
 {
     match free {
         Free::None => put_word(at, b"none", into),
@@ -25,8 +25,8 @@ fn put_free(at: usize, free: Free, into: &mut [u8]) -> usize
 }
 
 fn put_board_line(tracks: usize, free: Free, rounds: u32, into: &mut [u8]) -> usize
-    requires { ⌜ 83 ≤ length (now into) ⌝ }
-    ensures { λ r. ⌜ Putting 83 0 (boardLine tracks (freeTold free) rounds) (now (into .entry)) (now (into .exit)) r ⌝ }
+    requires { ⌜ mostBoardLine ≤ length (now into) ⌝ }
+    ensures { λ r. ⌜ Putting mostBoardLine 0 (boardLine tracks (freeTold free) rounds) (now (into .entry)) (now (into .exit)) r ⌝ }
 {
     let behind_word = put_word(0, b"tracks ", into);
     let behind_tracks = put_number(behind_word, tracks as u64, into);
@@ -36,39 +36,39 @@ fn put_board_line(tracks: usize, free: Free, rounds: u32, into: &mut [u8]) -> us
     put_cell(before_rounds, rounds as u64, b'\n', into)
 }
 
-fn put_track_line(at: usize, t: usize, place: [u32; 2], into: &mut [u8]) -> usize
-    requires { ⌜ at + 63 ≤ length (now into) ⌝ }
-    ensures { λ r. ⌜ Putting 63 at (trackLine t place) (now (into .entry)) (now (into .exit)) r ⌝ }
+fn put_track_line(at: usize, t: usize, sizes: [u32; 2], into: &mut [u8]) -> usize
+    requires { ⌜ at + mostTrackLine ≤ length (now into) ⌝ }
+    ensures { λ r. ⌜ Putting mostTrackLine at (trackLine t sizes) (now (into .entry)) (now (into .exit)) r ⌝ }
 {
     let behind_track = put_cell(at, t as u64, b' ', into);
-    let behind_base = put_cell(behind_track, place[0] as u64, b' ', into);
-    put_cell(behind_base, place[1] as u64, b'\n', into)
+    let behind_base = put_cell(behind_track, sizes[0] as u64, b' ', into);
+    put_cell(behind_base, sizes[1] as u64, b'\n', into)
 }
 
-fn put_track_lines(at: usize, tracks: usize, places: &[[u32; 2]], into: &mut [u8]) -> usize
-    requires { ⌜ (tracks ≤ length (now places)) × (at + 63 * tracks ≤ length (now into)) ⌝ }
-    ensures { λ r. ⌜ Putting (63 * tracks) at (trackLines 0 (take tracks (now (places .entry)))) (now (into .entry)) (now (into .exit)) r ⌝ }
+fn put_track_lines(at: usize, tracks: usize, sizes: &[[u32; 2]], into: &mut [u8]) -> usize
+    requires { ⌜ (tracks ≤ length (now sizes)) × (at + mostTrackLine * tracks ≤ length (now into)) ⌝ }
+    ensures { λ r. ⌜ Putting (mostTrackLine * tracks) at (trackLines 0 (take tracks (now (sizes .entry)))) (now (into .entry)) (now (into .exit)) r ⌝ }
 {
     let mut next = at;
     let mut t = 0;
     while t < tracks {
-        next = put_track_line(next, t, places[t], into);
+        next = put_track_line(next, t, sizes[t], into);
         t += 1;
     }
     next
 }
 
-fn put_board(tracks: usize, free: Free, rounds: u32, places: &[[u32; 2]], into: &mut [u8]) -> usize
-    requires { ⌜ (tracks ≤ length (now places)) × (83 + 63 * tracks ≤ length (now into)) ⌝ }
-    ensures { λ r. ⌜ Putting (83 + 63 * tracks) 0 (boardLine tracks (freeTold free) rounds ++ trackLines 0 (take tracks (now (places .entry)))) (now (into .entry)) (now (into .exit)) r ⌝ }
+fn put_board(tracks: usize, free: Free, rounds: u32, sizes: &[[u32; 2]], into: &mut [u8]) -> usize
+    requires { ⌜ (tracks ≤ length (now sizes)) × (mostBoardLine + mostTrackLine * tracks ≤ length (now into)) ⌝ }
+    ensures { λ r. ⌜ Putting (mostBoardLine + mostTrackLine * tracks) 0 (boardLine tracks (freeTold free) rounds ++ trackLines 0 (take tracks (now (sizes .entry)))) (now (into .entry)) (now (into .exit)) r ⌝ }
 {
     let behind_line = put_board_line(tracks, free, rounds, into);
-    put_track_lines(behind_line, tracks, places, into)
+    put_track_lines(behind_line, tracks, sizes, into)
 }
 
 fn put_refusal(number: u32, place: usize, into: &mut [u8]) -> usize
-    requires { ⌜ 53 ≤ length (now into) ⌝ }
-    ensures { λ r. ⌜ Putting 53 0 (refusalLine number place) (now (into .entry)) (now (into .exit)) r ⌝ }
+    requires { ⌜ mostRefusalLine ≤ length (now into) ⌝ }
+    ensures { λ r. ⌜ Putting mostRefusalLine 0 (refusalLine number place) (now (into .entry)) (now (into .exit)) r ⌝ }
 {
     let behind_word = put_word(0, b"refused ", into);
     let behind_number = put_number(behind_word, number as u64, into);
@@ -76,17 +76,17 @@ fn put_refusal(number: u32, place: usize, into: &mut [u8]) -> usize
     put_cell(before_place, place as u64, b'\n', into)
 }
 
-// The tracks' places are the first of those that are handed over.
-pub fn put_answer(answer: BoardAnswer, places: &[[u32; 2]], into: &mut [u8]) -> usize
-    requires { ⌜ TracksWithin (boardTold answer) (now places) × (83 + 63 * length (now places) ≤ length (now into)) ⌝ }
-    ensures { λ r. ⌜ Putting (83 + 63 * length (now (places .entry))) 0 (answerText (boardTold answer) (now (places .entry))) (now (into .entry)) (now (into .exit)) r ⌝ }
+// The tracks' sizes are the first of those that are handed over.
+pub fn put_answer(answer: BoardAnswer, sizes: &[[u32; 2]], into: &mut [u8]) -> usize
+    requires { ⌜ TracksWithin (boardTold answer) (now sizes) × (mostBoardLine + mostTrackLine * length (now sizes) ≤ length (now into)) ⌝ }
+    ensures { λ r. ⌜ Putting (mostBoardLine + mostTrackLine * length (now (sizes .entry))) 0 (answerText (boardTold answer) (now (sizes .entry))) (now (into .entry)) (now (into .exit)) r ⌝ }
 {
     match answer {
         BoardAnswer::Board {
             tracks,
             free,
             rounds,
-        } => put_board(tracks, free, rounds, places, into),
+        } => put_board(tracks, free, rounds, sizes, into),
         BoardAnswer::Refused(refusal) => put_refusal(refusal.number(), refusal.place(), into),
     }
 }

@@ -20,8 +20,13 @@ pub enum PrintAnswer {
     NoRoom,
 }
 
+// The first line of a board, and the line of a track, at their longest.
+const MOST_BOARD_LINE: usize = 83;
+
+const MOST_TRACK_LINE: usize = 63;
+
 // As many bytes as any text takes, of a board of 256 tracks too.
-pub const MOST_TEXT: usize = 16_211;
+pub const MOST_TEXT: usize = MOST_BOARD_LINE + MOST_TRACK_LINE * Track::MOST;
 
 // Sizes a sheet and puts what is printed of it into lent bytes; those behind the text keep what they hold.
 pub fn print_sheet(bytes: &[u8], into: &mut [u8]) -> PrintAnswer
@@ -30,8 +35,8 @@ pub fn print_sheet(bytes: &[u8], into: &mut [u8]) -> PrintAnswer
     if into.len() < MOST_TEXT {
         return PrintAnswer::NoRoom;
     }
-    let mut places = [[0u32; 2]; Track::MOST];
-    let answer = board(bytes, &mut places);
-    let length = put_answer(answer, &places, into);
+    let mut sizes = [[0u32; 2]; Track::MOST];
+    let answer = board(bytes, &mut sizes);
+    let length = put_answer(answer, &sizes, into);
     PrintAnswer::Printed { length }
 }

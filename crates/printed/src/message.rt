@@ -5,16 +5,19 @@ ghost use mathlib.Core.Path.{_≡_};
 ghost use mathlib.Core.List.{flatMap};
 ghost use Prim.Native.Nat.{_+_, _*_, _≤_, _<_};
 ghost use lib.ListN.{length};
-ghost use Rattle.printed.specs.Rule.{isPlain, hexDigit, shown, messageText, messageCall};
+ghost use Rattle.printed.specs.Rule.{mostFrame, isPlain, hexDigit, shown, messageText, messageCall};
 ghost use Rattle.printed.specs.Putting.{Putting};
 ghost use Rattle.printed.specs.Answer.{printLeaves};
+
+// The reader's own name and two quotes, around the rest.
+const MOST_FRAME: usize = 10;
 
 const MOST_NAME: usize = 4_096;
 
 const MOST_WORDS: usize = 128;
 
 // Room for any message.
-pub const MOST_MESSAGE: usize = 16_522;
+pub const MOST_MESSAGE: usize = MOST_FRAME + 4 * MOST_NAME + MOST_WORDS;
 
 fn is_plain(byte: u8) -> bool
     ensures { λ r. ⌜ r ≡ isPlain byte ⌝ }
@@ -68,8 +71,8 @@ fn put_name(at: usize, name: &[u8], into: &mut [u8]) -> usize
 }
 
 fn put_message(name: &[u8], words: &[u8], into: &mut [u8]) -> usize
-    requires { ⌜ 10 + 4 * length (now name) + length (now words) ≤ length (now into) ⌝ }
-    ensures { λ r. ⌜ Putting (10 + 4 * length (now (name .entry)) + length (now (words .entry))) 0 (messageText (now (name .entry)) (now (words .entry))) (now (into .entry)) (now (into .exit)) r ⌝ }
+    requires { ⌜ mostFrame + 4 * length (now name) + length (now words) ≤ length (now into) ⌝ }
+    ensures { λ r. ⌜ Putting (mostFrame + 4 * length (now (name .entry)) + length (now (words .entry))) 0 (messageText (now (name .entry)) (now (words .entry))) (now (into .entry)) (now (into .exit)) r ⌝ }
 {
     let opened = put_word(0, b"reader: '", into);
     let named = put_name(opened, name, into);

@@ -4,8 +4,11 @@ ghost use Prim.Native.Nat.{_+_, _≤_};
 ghost use mathlib.Core.List.{_++_, _∷_, []};
 ghost use lib.ListN.{length};
 ghost use lib.IntN.{natAbs};
-ghost use Rattle.printed.specs.Rule.{decimal, signed};
+ghost use Rattle.printed.specs.Rule.{mostDigits, mostCell, decimal, signed};
 ghost use Rattle.printed.specs.Putting.{Putting};
+
+// The digits of the largest number.
+const MOST_DIGITS: usize = 20;
 
 pub fn put_word(at: usize, text: &[u8], into: &mut [u8]) -> usize
     requires { ⌜ at + length (now text) ≤ length (now into) ⌝ }
@@ -20,18 +23,18 @@ pub fn put_word(at: usize, text: &[u8], into: &mut [u8]) -> usize
 }
 
 pub fn put_number(at: usize, n: u64, into: &mut [u8]) -> usize
-    requires { ⌜ at + 20 ≤ length (now into) ⌝ }
-    ensures { λ r. ⌜ Putting 20 at (decimal n) (now (into .entry)) (now (into .exit)) r ⌝ }
+    requires { ⌜ at + mostDigits ≤ length (now into) ⌝ }
+    ensures { λ r. ⌜ Putting mostDigits at (decimal n) (now (into .entry)) (now (into .exit)) r ⌝ }
 {
-    let mut digits = [0u8; 20];
+    let mut digits = [0u8; MOST_DIGITS];
     let count = io::decimal(n, &mut digits);
     put_word(at, &digits[..count], into)
 }
 
 // A number, and one byte behind it.
 pub fn put_cell(at: usize, n: u64, end: u8, into: &mut [u8]) -> usize
-    requires { ⌜ at + 21 ≤ length (now into) ⌝ }
-    ensures { λ r. ⌜ Putting 21 at (decimal n ++ (end ∷ [])) (now (into .entry)) (now (into .exit)) r ⌝ }
+    requires { ⌜ at + mostCell ≤ length (now into) ⌝ }
+    ensures { λ r. ⌜ Putting mostCell at (decimal n ++ (end ∷ [])) (now (into .entry)) (now (into .exit)) r ⌝ }
 {
     let next = put_number(at, n, into);
     put_word(next, &[end], into)
@@ -49,8 +52,8 @@ fn magnitude(n: i32) -> u64
 }
 
 pub fn put_signed(at: usize, n: i32, into: &mut [u8]) -> usize
-    requires { ⌜ at + 21 ≤ length (now into) ⌝ }
-    ensures { λ r. ⌜ Putting 21 at (signed n) (now (into .entry)) (now (into .exit)) r ⌝ }
+    requires { ⌜ at + mostCell ≤ length (now into) ⌝ }
+    ensures { λ r. ⌜ Putting mostCell at (signed n) (now (into .entry)) (now (into .exit)) r ⌝ }
 {
     if n < 0 {
         let next = put_word(at, b"-", into);

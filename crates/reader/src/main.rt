@@ -1,7 +1,7 @@
 // Sizes sheets and prints their boards: `reader SHEET...`, each file in turn; with no name, or for `-`, the sheet on standard input.
 // A refusal is an answer like a board and goes to standard output. The text of an answer is made whole before any of it is written
 // (crate printed, where it is proved). What cannot be read or written is told in one line on standard error.
-mod input;
+mod store;
 mod words;
 
 use libc::STDERR_FILENO;
@@ -66,7 +66,7 @@ fn answer(sheet: &[u8]) -> bool {
 
 // The answer for one input. A sheet that cannot be read is told, and the next one has its turn.
 fn answer_from(fd: i32, name: &[u8]) -> bool {
-    let mut sheet = input::buffer();
+    let mut sheet = store::buffer();
     let read = input::read_from(fd, &mut sheet);
     let length = read.length;
     if read.is_whole {

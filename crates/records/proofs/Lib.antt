@@ -1,6 +1,6 @@
 -- The laws of a record's parts. A function's own proof stands in the folder of its name.
 
--- the first of two faults; numbers of two and four bytes; a tag as the code takes it
-pub mod Firsts
+-- a count within its limit; numbers of two and four bytes; a tag as the code takes it
+pub mod Counts
 pub mod LittleEndian
 pub mod TagUses

@@ -4,7 +4,8 @@ use mathlib.Core.Bool.{true, false}
 use mathlib.Core.Logic.{⊎-elim}
 use Prim.Native.Nat.{ℕ}
 use Rattle.laws.specs.Tests.{true-or-false}
-use Rattle.records.specs.Rule.{Tags, Fault, isIn, taggedFault}
+use Rattle.laws.specs.Lists.{among}
+use Rattle.records.specs.Rule.{Tags, Fault, taggedFault}
 use Rattle.records.specs.Answer.{useOf, useFault}
 use Rattle.records.specs.declared.tags.Use.{Use}
 
@@ -12,13 +13,13 @@ pub use-fault-is-tagged-fault : (tags : Tags) (tag n place : ℕ) → useFault (
 unfolding taggedFault
 use-fault-is-tagged-fault tags tag n place =
     ⊎-elim
-    (λ (e : isIn tag (tags .carrying) ≡ true). rw e)
-    (λ (e : isIn tag (tags .carrying) ≡ false).
+    (λ (e : among (tags .carrying) tag ≡ true). rw e)
+    (λ (e : among (tags .carrying) tag ≡ false).
     ⊎-elim
-    (λ (f : isIn tag (tags .bare) ≡ true). rw (e, f))
-    (λ (f : isIn tag (tags .bare) ≡ false). rw (e, f))
-    (true-or-false (isIn tag (tags .bare))))
-    (true-or-false (isIn tag (tags .carrying)))
+    (λ (f : among (tags .bare) tag ≡ true). rw (e, f))
+    (λ (f : among (tags .bare) tag ≡ false). rw (e, f))
+    (true-or-false (among (tags .bare) tag)))
+    (true-or-false (among (tags .carrying) tag))
 
 -- the same of what a look at a tag found
 pub tagged-fault-of-use : (tags : Tags) (tag n place : ℕ) (u : Use) (f : Fault) → f ≡ useFault u n place → u ≡ useOf tags tag → f ≡ taggedFault tags tag n place

@@ -2,9 +2,10 @@
 use Prim.Native.Nat.{ℕ, _+_}
 use mathlib.Core.Bool.{Bool, true, false, cond}
 use lib.Dec.{eqb}
-use Rattle.records.specs.Rule.{Tags, isIn, Fault, fine, fault, unless}
+use Rattle.laws.specs.Lists.{among}
+use Rattle.records.specs.Rule.{Tags, Fault, fine, fault, unless}
 use Rattle.records.specs.declared.refusal.Refusal.{Refusal}
-use Rattle.records.specs.declared.refusal.Refusal.the-variants.{Short, BytesOver, Count, Tag, StrayNumber, TooFewPlaces}
+use Rattle.records.specs.declared.refusal.Refusal.the-variants.{Short, BytesOver, Count, Tag, StrayNumber, LentTooShort}
 use Rattle.records.specs.declared.refusal.Fault as found
 use Rattle.records.specs.declared.refusal.Fault.the-variants.{Fine, Found}
 use Rattle.records.specs.declared.tags.Use.{Use}
@@ -19,7 +20,7 @@ numberOf (BytesOver at) = 2
 numberOf (Count at) = 3
 numberOf (Tag at) = 4
 numberOf (StrayNumber at) = 5
-numberOf TooFewPlaces = 6
+numberOf LentTooShort = 6
 
 abbrev pub placeOf : Refusal → ℕ
 placeOf (Short length) = length
@@ -27,7 +28,7 @@ placeOf (BytesOver at) = at
 placeOf (Count at) = at
 placeOf (Tag at) = at
 placeOf (StrayNumber at) = at
-placeOf TooFewPlaces = 0
+placeOf LentTooShort = 0
 
 abbrev pub refusalFault : Refusal → Fault
 refusalFault refusal = fault (numberOf refusal) (placeOf refusal)
@@ -48,7 +49,7 @@ lastPlace = 18446744073709551615
 
 -- what a tag says of the number beside it
 abbrev pub useOf : Tags → ℕ → Use
-useOf tags tag = cond (isIn tag (tags .carrying)) Carries (cond (isIn tag (tags .bare)) Bare Unlisted)
+useOf tags tag = cond (among (tags .carrying) tag) Carries (cond (among (tags .bare) tag) Bare Unlisted)
 
 abbrev pub useFault : Use → ℕ → ℕ → Fault
 useFault Carries n at = fine

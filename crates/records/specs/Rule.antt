@@ -1,11 +1,14 @@
 -- The records of a sheet: what their bytes say, what is wrong with them, and the bytes that say it. This is the first page of the
 -- sheet's rule, and `crates/sheet/specs/Rule.antt` the second: sections, the sheet, the calls. They follow the build paper's section
--- 'The sheet' and numbers 1 to 6 of its table. It assumes nothing of the code and it computes.
+-- 'The sheet' and numbers 1 to 6 of its table, in the words for faults of `crates/laws/specs/Faults.antt`, which it hands on. It assumes
+-- nothing of the code and it computes.
 use Prim.Native.Nat.{ℕ, zero, suc, _+_, _*_, _/_, _%_}
-use mathlib.Core.Bool.{Bool, true, false, cond, _||_}
+use mathlib.Core.Bool.{cond}
 use mathlib.Core.List.{List, [], _∷_, _++_}
 use lib.Dec.{eqb, leb}
 use lib.ListN.{getD, length, drop}
+use Rattle.laws.specs.Lists.{among}
+pub use Rattle.laws.specs.Faults.{Fault, fine, fault, first, unless}
 pub use Rattle.kinds.specs.Kinds.{Row}
 
 -- ---- Numbers, little-endian
@@ -112,30 +115,12 @@ rowsBytes parts (row ∷ rows) = rowBytes parts row ++ rowsBytes parts rows
 
 -- ---- Faults, front to back: the first byte at fault decides
 
--- No fault, or the refusal's number and place.
-pub data Fault : Type 0 where
-  fine : Fault
-  fault : (number place : ℕ) → Fault
-
--- the first of two that is a fault
-abbrev pub first : Fault → Fault → Fault
-first fine next = next
-first (fault number place) next = fault number place
-
-abbrev pub unless : Bool → Fault → Fault
-unless true f = fine
-unless false f = f
-
-unfoldable pub isIn : ℕ → List ℕ → Bool
-isIn n [] = false
-isIn n (m ∷ ms) = eqb n m || isIn n ms
-
 -- 4: the tag is not listed. 5: it carries no number, and the number is not zero.
 unfoldable pub taggedFault : Tags → ℕ → ℕ → ℕ → Fault
 taggedFault tags tag n at =
-    cond (isIn tag (tags .carrying))
+    cond (among (tags .carrying) tag)
     fine
-    (cond (isIn tag (tags .bare))
+    (cond (among (tags .bare) tag)
     (unless (eqb n 0) (fault 5 (at + 1)))
     (fault 4 at))
 
@@ -143,7 +128,7 @@ taggedFault tags tag n at =
 unfoldable pub rowFault : List Part → Row → ℕ → Fault
 rowFault (tagged tags ∷ parts) (tag ∷ n ∷ row) at = first (taggedFault tags tag n at) (rowFault parts row (at + 5))
 rowFault (tagged tags ∷ parts) (tag ∷ []) at = fine
-rowFault (mark listed ∷ parts) (n ∷ row) at = first (unless (isIn n listed) (fault 4 at)) (rowFault parts row (at + 1))
+rowFault (mark listed ∷ parts) (n ∷ row) at = first (unless (among listed n) (fault 4 at)) (rowFault parts row (at + 1))
 rowFault (pair ∷ parts) (n ∷ row) at = rowFault parts row (at + 4)
 rowFault (part ∷ parts) [] at = fine
 rowFault [] row at = fine

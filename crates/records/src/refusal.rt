@@ -15,7 +15,7 @@ pub enum Refusal {
     // A number without use that is not zero: its first byte.
     StrayNumber { at: usize },
     // The lent rows or bytes are too few.
-    TooFewPlaces,
+    LentTooShort,
 }
 
 impl Refusal {
@@ -28,7 +28,7 @@ impl Refusal {
             Refusal::Count { at: _ } => 3,
             Refusal::Tag { at: _ } => 4,
             Refusal::StrayNumber { at: _ } => 5,
-            Refusal::TooFewPlaces => 6,
+            Refusal::LentTooShort => 6,
         }
     }
 
@@ -41,7 +41,7 @@ impl Refusal {
             Refusal::Count { at } => at,
             Refusal::Tag { at } => at,
             Refusal::StrayNumber { at } => at,
-            Refusal::TooFewPlaces => 0,
+            Refusal::LentTooShort => 0,
         }
     }
 }

@@ -7,7 +7,8 @@ use sheet_kinds::SheetMaximum;
 use sheet_kinds::SheetMinimum;
 ghost use mathlib.Core.Path.{_≡_};
 ghost use Prim.Native.Nat.{_+_, _≤_};
-ghost use Rattle.records.specs.Rule.{constraintTags, givenTags, minimumTags, maximumTags, stretchBytes, isIn, unless, fault};
+ghost use Rattle.laws.specs.Lists.{among};
+ghost use Rattle.records.specs.Rule.{constraintTags, givenTags, minimumTags, maximumTags, stretchBytes, unless, fault};
 ghost use Rattle.records.specs.Answer.{faultOf, lastPlace, useOf, useFault};
 
 pub enum Use {
@@ -101,7 +102,7 @@ impl Use {
 
 // What is wrong with a stretch byte.
 pub fn stretch_fault(byte: u32, at: usize) -> Fault
-    ensures { λ r. ⌜ faultOf r ≡ unless (isIn byte stretchBytes) (fault 4 at) ⌝ }
+    ensures { λ r. ⌜ faultOf r ≡ unless (among stretchBytes byte) (fault 4 at) ⌝ }
 {
     Fault::unless(byte < 2, Refusal::Tag { at })
 }

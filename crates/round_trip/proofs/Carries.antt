@@ -3,8 +3,8 @@ use mathlib.Core.Path.{_≡_, ap, _∙_}
 use Prim.Native.Nat.{ℕ}
 use mathlib.Core.List.{List}
 use lib.ListN.{length, take}
+use Rattle.laws.specs.Faults.{fine-both}
 use Rattle.records.specs.declared.refusal.Refusal.{Refusal}
-use Rattle.records.proofs.Firsts.{fine-both}
 use Rattle.sheet.specs.Rule.{Row, Sheet, sheetBytes, first, sheetFault, enough, readAs, readCall, ReadOutcome, writeCall}
 use Rattle.sheet.specs.Answer.{readLeaves, writeLeaves}
 use Rattle.sheet.specs.RoundTrip.{Shaped}

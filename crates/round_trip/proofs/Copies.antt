@@ -3,9 +3,9 @@ use mathlib.Core.Path.{_≡_, ap, _∙_}
 use Prim.Native.Nat.{ℕ}
 use mathlib.Core.List.{List}
 use lib.ListN.{length, take}
+use Rattle.laws.specs.Faults.{fine-both}
 use Rattle.sheet_kinds.specs.declared.space.Space.{Space}
 use Rattle.records.specs.declared.refusal.Refusal.{Refusal}
-use Rattle.records.proofs.Firsts.{fine-both}
 use Rattle.rows.specs.Shapes.{AreBytes}
 use Rattle.sheet.specs.Rule.{Row, Sheet, sheetFault, enough, readCall, writeAs, writeCall, WriteOutcome}
 use Rattle.sheet.specs.Answer.{readLeaves, writeLeaves, sheetOf}

@@ -1,9 +1,12 @@
 // The rounds of a fill, on the rests: what room each track has left, in memory that the caller lends (specs/Rule.antt is the fill's
 // rule, specs/Rests.antt the same on rests). Whoever fills rests of his own calls this; the call with its refusals is the crate fill.
+mod numbers;
 mod rests;
 
+pub use numbers::larger;
+pub use numbers::less;
+pub use numbers::smaller;
 use rests::Found;
-pub use rests::less;
 ghost use mathlib.Core.Path.{_≡_};
 ghost use Prim.Native.Nat.{ℕ, _+_, _≤_, _<_};
 ghost use lib.ListN.{length};
@@ -45,7 +48,7 @@ fn round(left: u32, found: Found, rests: &mut [u32]) -> u32
         rests::take_odd(left, rests);
         return 0;
     }
-    let k = rests::smaller(q, found.least);
+    let k = smaller(q, found.least);
     rests::take_each(k, rests);
     left - k * count
 }

@@ -1,23 +1,12 @@
 // The walks over the rests, each track's room that is left: what is open, and what a round takes.
+use crate::numbers::less;
+use crate::numbers::smaller;
 ghost use mathlib.Core.Path.{_≡_};
 ghost use Prim.Native.Nat.{_-_, _≤_, min};
 ghost use lib.ListN.{length};
 ghost use Rattle.rounds.specs.Rule.{mostTracks};
 ghost use Rattle.rounds.specs.Rests.{openRests, lowered, leastRest, takeEach, takeOdd};
 ghost use Rattle.rounds.specs.Found.{foundIn};
-
-pub fn smaller(a: u32, b: u32) -> u32
-    ensures { λ r. ⌜ r ≡ min a b ⌝ }
-{
-    if a < b { a } else { b }
-}
-
-// x without k, at least 0.
-pub fn less(x: u32, k: u32) -> u32
-    ensures { λ r. ⌜ r ≡ x - k ⌝ }
-{
-    if x < k { 0 } else { x - k }
-}
 
 // What a round has to know: how many tracks are open, and the least room of an open one.
 pub struct Found {

@@ -6,7 +6,9 @@ use native.Mathlib.Nat.{mod-add-div}
 use mathlib.Core.List.{List}
 use lib.ListN.{length, getD}
 use Rattle.laws.specs.Rows.{firsts, elements}
-use Rattle.records.specs.Rule.{Row, Part, constraintTags, givenTags, minimumTags, maximumTags, stretchBytes, spaceRecord, trackRecord, itemRecord, isIn, taggedFault, rowFault, fine, fault, unless}
+use Rattle.laws.specs.Lists.{among}
+use Rattle.laws.specs.Faults.{fine-both, fine-test}
+use Rattle.records.specs.Rule.{Row, Part, constraintTags, givenTags, minimumTags, maximumTags, stretchBytes, spaceRecord, trackRecord, itemRecord, taggedFault, rowFault, fine, fault, unless}
 use Rattle.rows.specs.Shapes.{width}
 use Rattle.kinds.specs.Kinds.{contribution, amountAt, itemRow, itemOf}
 use Rattle.sheet_kinds.specs.Kinds.{spaceRow, spaceOf, sheetTrackRow, sheetTrackOf}
@@ -15,7 +17,6 @@ use Rattle.sheet_kinds.specs.declared.space.Space.{Space}
 use Rattle.sheet_kinds.specs.declared.track.SheetTrack.{SheetTrack}
 use Rattle.kinds.specs.declared.item.ContributionKind.the-variants as kind
 use Rattle.kinds.specs.declared.item.Item.{Item}
-use Rattle.records.proofs.Firsts.{fine-both, fine-test}
 use Rattle.records.proofs.LittleEndian.{mod-of-halves, div-of-halves}
 use Rattle.rows.proofs.TagCases.{constraint-said, constraint-kept, amount-said, amount-kept, minimum-said, minimum-kept, maximum-said, maximum-kept, bit-said, bit-kept}
 
@@ -37,10 +38,10 @@ unfolding rowFault width
 row-of-space row p l e =
     let x = fine-both (taggedFault constraintTags (getD row 0 0) (getD row 1 0) p) _ (fine-elements spaceRecord 5 row p l e) in
     let y = fine-both (taggedFault givenTags (getD row 2 0) (getD row 3 0) (p + 5)) _ (x .1) in
-    let z = fine-both (unless (isIn (getD row 4 0) stretchBytes) (fault 4 (p + 5 + 5))) _ (y .1) in
+    let z = fine-both (unless (among stretchBytes (getD row 4 0)) (fault 4 (p + 5 + 5))) _ (y .1) in
     let constraint = constraint-kept _ _ p (x .0) in
     let inner = amount-kept _ _ (p + 5) (y .0) in
-    let stretch = bit-kept _ (fine-test (isIn (getD row 4 0) stretchBytes) _ _ (z .0)) in
+    let stretch = bit-kept _ (fine-test (among stretchBytes (getD row 4 0)) _ _ (z .0)) in
     rw (constraint .0, constraint .1, inner .0, inner .1, stretch) (sym (elements 0 5 row l))
 
 -- ---- a track

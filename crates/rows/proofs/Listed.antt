@@ -10,8 +10,9 @@ use lib.ListN.{length, getD}
 use borrow.Author.Tests.{ltb-true, eqb-true}
 use Rattle.laws.specs.Tests.{true-or-false, never}
 use Rattle.laws.specs.Rows.{firsts, elements}
-use Rattle.records.specs.Rule.{Part, tagged, mark, pair, Row, Tags, fine, fault, unless, isIn, taggedFault, rowFault}
-use Rattle.records.proofs.Firsts.{fine-both, fine-test}
+use Rattle.laws.specs.Lists.{among}
+use Rattle.laws.specs.Faults.{fine-both, fine-test}
+use Rattle.records.specs.Rule.{Part, tagged, mark, pair, Row, Tags, fine, fault, unless, taggedFault, rowFault}
 
 -- ---- the lists name bytes, which a test can tell
 
@@ -29,8 +30,8 @@ both-true : (a b : Bool) → (a && b) ≡ true → (a ≡ true) × (b ≡ true)
 both-true true b e = (refl, e)
 both-true false b e = never e refl
 
-small-of-in : (n : ℕ) (ms : List ℕ) → areSmall ms ≡ true → isIn n ms ≡ true → n < 256
-unfolding areSmall isIn
+small-of-in : (n : ℕ) (ms : List ℕ) → areSmall ms ≡ true → among ms n ≡ true → n < 256
+unfolding areSmall among
 small-of-in n [] s e = never e refl
 small-of-in n (m ∷ ms) s e =
     let b = both-true (ltb m 256) (areSmall ms) s in
@@ -43,13 +44,13 @@ small-of-tagged : (tags : Tags) (tag n p : ℕ) → areSmall (tags .carrying) �
 unfolding taggedFault
 small-of-tagged tags tag n p s t e =
     ⊎-elim
-    (λ (i : isIn tag (tags .carrying) ≡ true). small-of-in tag (tags .carrying) s i)
-    (λ (i : isIn tag (tags .carrying) ≡ false).
+    (λ (i : among (tags .carrying) tag ≡ true). small-of-in tag (tags .carrying) s i)
+    (λ (i : among (tags .carrying) tag ≡ false).
     ⊎-elim
-    (λ (j : isIn tag (tags .bare) ≡ true). small-of-in tag (tags .bare) t j)
-    (λ (j : isIn tag (tags .bare) ≡ false). let z : fault 4 p ≡ fine = rw (i, j) at e in let y : _≡_ {A = ℕ} 0 1 = cc in absurd (omega arith))
-    (true-or-false (isIn tag (tags .bare))))
-    (true-or-false (isIn tag (tags .carrying)))
+    (λ (j : among (tags .bare) tag ≡ true). small-of-in tag (tags .bare) t j)
+    (λ (j : among (tags .bare) tag ≡ false). let z : fault 4 p ≡ fine = rw (i, j) at e in let y : _≡_ {A = ℕ} 0 1 = cc in absurd (omega arith))
+    (true-or-false (among (tags .bare) tag)))
+    (true-or-false (among (tags .carrying) tag))
 
 -- ---- a row
 
@@ -75,8 +76,8 @@ small-tags (tagged tags ∷ parts) (tag ∷ n ∷ row) p s e =
 small-tags (mark listed ∷ parts) [] p s e = tt
 small-tags (mark listed ∷ parts) (n ∷ row) p s e =
     let a = both-true (areSmall listed) _ s in
-    let f = fine-both (unless (isIn n listed) (fault 4 p)) _ e in
-    (small-of-in n listed (a .0) (fine-test (isIn n listed) 4 p (f .0)), small-tags parts row (p + 1) (a .1) (f .1))
+    let f = fine-both (unless (among listed n) (fault 4 p)) _ e in
+    (small-of-in n listed (a .0) (fine-test (among listed n) 4 p (f .0)), small-tags parts row (p + 1) (a .1) (f .1))
 small-tags (pair ∷ parts) [] p s e = tt
 small-tags (pair ∷ parts) (n ∷ row) p s e = small-tags parts row (p + 4) s e
 

@@ -9,14 +9,15 @@ use lib.Dec.{eqb}
 use borrow.Author.Tests.{eqb-true}
 use Rattle.laws.specs.Marks.{bit}
 use Rattle.laws.specs.Tests.{true-or-false, never}
-use Rattle.records.specs.Rule.{Tags, constraintTags, givenTags, minimumTags, maximumTags, stretchBytes, isIn, taggedFault, fine, fault, unless}
+use Rattle.laws.specs.Lists.{among}
+use Rattle.laws.specs.Faults.{fine-test}
+use Rattle.records.specs.Rule.{Tags, constraintTags, givenTags, minimumTags, maximumTags, stretchBytes, taggedFault, fine, fault, unless}
 use Rattle.kinds.specs.Kinds.{amountTag, amountNumber, amountOf, constraintTag, constraintNumber, constraintOf}
 use Rattle.sheet_kinds.specs.Kinds.{sheetMinimumTag, sheetMinimumNumber, sheetMinimumOf, sheetMaximumTag, sheetMaximumNumber, sheetMaximumOf}
 use Rattle.kinds.specs.declared.amount.Amount.the-variants.{Absent, Given}
 use Rattle.kinds.specs.declared.constraint.Constraint.the-variants as constraint
 use Rattle.sheet_kinds.specs.declared.track.SheetMinimum.the-variants as minimum
 use Rattle.sheet_kinds.specs.declared.track.SheetMaximum.the-variants as maximum
-use Rattle.records.proofs.Firsts.{fine-test}
 
 -- ---- a tag and number without fault, case by case
 
@@ -25,8 +26,8 @@ Each P [] = Unit
 Each P (m ∷ ms) = P m × Each P ms
 
 -- what holds of each in a list holds of a number that is in it
-each-in : (P : ℕ → Type 0) (ms : List ℕ) → Each P ms → (n : ℕ) → isIn n ms ≡ true → P n
-unfolding isIn
+each-in : (P : ℕ → Type 0) (ms : List ℕ) → Each P ms → (n : ℕ) → among ms n ≡ true → P n
+unfolding among
 each-in P [] h n e = never e refl
 each-in P (m ∷ ms) h n e =
     ⊎-elim
@@ -38,7 +39,7 @@ each-in P (m ∷ ms) h n e =
 tagged-cases : (P : ℕ → ℕ → Type 0) (tags : Tags) → Each (λ tag. (n : ℕ) → P tag n) (tags .carrying) → Each (λ tag. P tag 0) (tags .bare) → (tag n p : ℕ) → taggedFault tags tag n p ≡ fine → P tag n
 unfolding taggedFault
 tagged-cases P tags hc hb tag n p e =
-    go (isIn tag (tags .carrying)) (isIn tag (tags .bare)) (each-in _ (tags .carrying) hc tag) (each-in _ (tags .bare) hb tag) e
+    go (among (tags .carrying) tag) (among (tags .bare) tag) (each-in _ (tags .carrying) hc tag) (each-in _ (tags .bare) hb tag) e
   where
     go : (c b : Bool) → (c ≡ true → (n : ℕ) → P tag n) → (b ≡ true → P tag 0) → cond c fine (cond b (unless (eqb n 0) (fault 5 (p + 1))) (fault 4 p)) ≡ fine → P tag n
     go true b x y h = x refl n
@@ -57,7 +58,7 @@ module _ {K : Type 0} (tags : Tags) (tagOf numberOf : K → ℕ) (kindOf : ℕ �
   Kept = (tag n p : ℕ) → taggedFault tags tag n p ≡ fine → (tagOf (kindOf tag n) ≡ tag) × (numberOf (kindOf tag n) ≡ n)
 
 pub constraint-said : Said constraintTags constraintTag constraintNumber constraintOf
-unfolding taggedFault isIn
+unfolding taggedFault among
 constraint-said (constraint.Definite n) = (refl, λ p. refl)
 constraint-said constraint.MinContent = (refl, λ p. refl)
 constraint-said constraint.MaxContent = (refl, λ p. refl)
@@ -66,7 +67,7 @@ pub constraint-kept : Kept constraintTags constraintTag constraintNumber constra
 constraint-kept = tagged-cases _ constraintTags ((λ n. (refl, refl)), tt) ((refl, refl), ((refl, refl), tt))
 
 pub amount-said : Said givenTags amountTag amountNumber amountOf
-unfolding taggedFault isIn
+unfolding taggedFault among
 amount-said Absent = (refl, λ p. refl)
 amount-said (Given n) = (refl, λ p. refl)
 
@@ -74,7 +75,7 @@ pub amount-kept : Kept givenTags amountTag amountNumber amountOf
 amount-kept = tagged-cases _ givenTags ((λ n. (refl, refl)), tt) ((refl, refl), tt)
 
 pub minimum-said : Said minimumTags sheetMinimumTag sheetMinimumNumber sheetMinimumOf
-unfolding taggedFault isIn
+unfolding taggedFault among
 minimum-said (minimum.Fixed n) = (refl, λ p. refl)
 minimum-said minimum.Auto = (refl, λ p. refl)
 minimum-said minimum.MinContent = (refl, λ p. refl)
@@ -84,7 +85,7 @@ pub minimum-kept : Kept minimumTags sheetMinimumTag sheetMinimumNumber sheetMini
 minimum-kept = tagged-cases _ minimumTags ((λ n. (refl, refl)), tt) ((refl, refl), ((refl, refl), ((refl, refl), tt)))
 
 pub maximum-said : Said maximumTags sheetMaximumTag sheetMaximumNumber sheetMaximumOf
-unfolding taggedFault isIn
+unfolding taggedFault among
 maximum-said (maximum.Fixed n) = (refl, λ p. refl)
 maximum-said maximum.Auto = (refl, λ p. refl)
 maximum-said maximum.MinContent = (refl, λ p. refl)
@@ -97,10 +98,10 @@ maximum-kept = tagged-cases _ maximumTags ((λ n. (refl, refl)), ((λ n. (refl, 
 
 -- ---- the stretch byte
 
-pub bit-said : (b : Bool) → (eqb (bit b) 1 ≡ b) × (isIn (bit b) stretchBytes ≡ true)
-unfolding isIn
+pub bit-said : (b : Bool) → (eqb (bit b) 1 ≡ b) × (among stretchBytes (bit b) ≡ true)
+unfolding among
 bit-said true = (refl, refl)
 bit-said false = (refl, refl)
 
-pub bit-kept : (n : ℕ) → isIn n stretchBytes ≡ true → bit (eqb n 1) ≡ n
+pub bit-kept : (n : ℕ) → among stretchBytes n ≡ true → bit (eqb n 1) ≡ n
 bit-kept = each-in (λ n. bit (eqb n 1) ≡ n) stretchBytes (refl, (refl, tt))

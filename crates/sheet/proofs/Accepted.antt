@@ -8,9 +8,9 @@ use mathlib.Core.List.{List}
 use lib.Dec.{leb}
 use lib.ListN.{length, drop}
 use borrow.Author.Tests.{leb-true, eqb-true}
+use Rattle.laws.specs.Faults.{first-assoc, fine-both, fine-test}
 use Rattle.rounds.specs.Rule.{mostTracks}
 use Rattle.rows.specs.Shapes.{AreBytes}
-use Rattle.records.proofs.Firsts.{first-assoc, fine-both, fine-test}
 use Rattle.rows.proofs.Stands.{Stands, stands-join, two-stands, rows-stand, length-rowsAt, width-rowAt}
 use Rattle.rows.proofs.KindRows.{row-of-space}
 use Rattle.sheet.specs.Rule.{Part, recordSize, spaceRecord, rowAt, rowsAt, twoAt, fine, wholeTo, rowFault, recordsFault, Section, countFault, sectionFault, sectionEnd, spaceSection, trackSection, itemSection, mostItems, first, tracksFrom, itemsFrom, faultFrom, tracksAt, itemsAt, sheetEnd, overFault, sheetFault}

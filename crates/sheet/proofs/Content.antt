@@ -6,9 +6,10 @@ use native.Mathlib.Omega.{arith}
 use mathlib.Core.List.{List, [], _∷_, _++_, append-assoc, append-nil}
 use lib.ListN.{length, getD, length-append}
 use borrow.Author.Tests.{le-leb, leb-true}
+use Rattle.laws.specs.Faults.{first-fine, first-where, fine-both}
 use Rattle.rounds.specs.Rule.{mostTracks}
 use Rattle.rows.specs.Shapes.{EachLong, width}
-use Rattle.records.proofs.Firsts.{first-fine, first-where, fine-both, le-of-count-fine}
+use Rattle.records.proofs.Counts.{le-of-count-fine}
 use Rattle.rows.proofs.Stands.{Stands, stands-front, stands-next}
 use Rattle.rows.proofs.KindRows.{space-fine}
 use Rattle.sheet.specs.Rule.{Row, recordSize, rowAt, rowsAt, rowFault, rowsBytes, spaceRecord, trackRecord, itemRecord, spaceSection, trackSection, itemSection, twoAt, tracksAt, itemsAt, sheetEnd, Sheet, sheetBytes, sheetAt, sheetFrom, sheetFault, sectionFault, overFault, mostItems, Fault, first, fine, fault}

@@ -4,10 +4,11 @@ use mathlib.Core.Path.{_≡_, refl}
 use mathlib.Core.Bool.{false}
 use mathlib.Core.List.{[], _∷_, _++_}
 use lib.ListN.{length}
+use Rattle.laws.specs.Lists.{among}
 use Rattle.kinds.specs.declared.amount.Amount.the-variants.{Given}
 use Rattle.kinds.specs.declared.constraint.Constraint.the-variants.{Definite}
 use Rattle.sheet_kinds.specs.Kinds.{space, spaceRow}
-use Rattle.sheet.specs.Rule.{recordSize, rowAt, rowsAt, rowBytes, rowsBytes, twoBytes, fourBytes, isIn, taggedFault, rowFault, recordsFault, fine, fault, Sheet, sheetBytes, sheetFrom, sheetAt, faultFrom, sheetFault}
+use Rattle.sheet.specs.Rule.{recordSize, rowAt, rowsAt, rowBytes, rowsBytes, twoBytes, fourBytes, taggedFault, rowFault, recordsFault, fine, fault, Sheet, sheetBytes, sheetFrom, sheetAt, faultFrom, sheetFault}
 
 abbrev w12 : Sheet
 w12 =
@@ -18,7 +19,7 @@ w12 =
     }
 
 pub w12-has-no-fault : sheetFault (sheetBytes w12) ≡ fine
-unfolding sheetBytes rowsBytes rowBytes fourBytes twoBytes sheetFault faultFrom recordsFault rowFault taggedFault isIn rowAt recordSize
+unfolding sheetBytes rowsBytes rowBytes fourBytes twoBytes sheetFault faultFrom recordsFault rowFault taggedFault among rowAt recordSize
 w12-has-no-fault = refl
 
 pub w12-says : sheetAt (sheetBytes w12) ≡ w12
@@ -27,5 +28,5 @@ w12-says = refl
 
 -- one byte more is one byte over
 pub w12-and-one-more : sheetFault (sheetBytes w12 ++ (0 ∷ [])) ≡ fault 2 (length (sheetBytes w12))
-unfolding sheetBytes rowsBytes rowBytes fourBytes twoBytes sheetFault faultFrom recordsFault rowFault taggedFault isIn rowAt recordSize
+unfolding sheetBytes rowsBytes rowBytes fourBytes twoBytes sheetFault faultFrom recordsFault rowFault taggedFault among rowAt recordSize
 w12-and-one-more = refl

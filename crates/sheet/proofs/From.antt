@@ -11,7 +11,8 @@ use lib.ListN.{length, length-append}
 use lib.Seq.{getD-append-add}
 use borrow.Author.Tests.{le-leb, lt-leb}
 use Rattle.laws.specs.Tests.{lt-or-ge}
-use Rattle.sheet.specs.Rule.{byteAt, twoAt, fourAt, Tags, Part, tagged, mark, pair, Row, recordSize, spaceRecord, rowAt, rowsAt, isIn, taggedFault, rowFault, Fault, fine, fault, first, unless, wholeTo, recordsFault, Section, spaceSection, trackSection, itemSection, countFault, sectionFault, sectionEnd, tracksFrom, itemsFrom, endFrom, sheetFrom, faultFrom}
+use Rattle.laws.specs.Lists.{among}
+use Rattle.sheet.specs.Rule.{byteAt, twoAt, fourAt, Tags, Part, tagged, mark, pair, Row, recordSize, spaceRecord, rowAt, rowsAt, taggedFault, rowFault, Fault, fine, fault, first, unless, wholeTo, recordsFault, Section, spaceSection, trackSection, itemSection, countFault, sectionFault, sectionEnd, tracksFrom, itemsFrom, endFrom, sheetFrom, faultFrom}
 
 -- a fault, so many places on
 abbrev pub movedBy : ℕ → Fault → Fault
@@ -29,7 +30,7 @@ module _ (k : ℕ) where
 
   tagged-moved : (tags : Tags) (tag n p q : ℕ) → q ≡ p + k → taggedFault tags tag n q ≡ movedBy k (taggedFault tags tag n p)
   unfolding taggedFault
-  tagged-moved tags tag n p q e = go (isIn tag (tags .carrying)) (isIn tag (tags .bare))
+  tagged-moved tags tag n p q e = go (among (tags .carrying) tag) (among (tags .bare) tag)
     where
       go : (c b : Bool) → cond c fine (cond b (unless (eqb n 0) (fault 5 (q + 1))) (fault 4 q)) ≡ movedBy k (cond c fine (cond b (unless (eqb n 0) (fault 5 (p + 1))) (fault 4 p)))
       go true b = refl
@@ -43,7 +44,7 @@ module _ (k : ℕ) where
   row-fault-moved (tagged tags ∷ parts) (tag ∷ []) p q e = refl
   row-fault-moved (tagged tags ∷ parts) (tag ∷ n ∷ row) p q e = first-moved (taggedFault tags tag n p) _ _ _ (tagged-moved tags tag n p q e) (row-fault-moved parts row (p + 5) (q + 5) (omega arith))
   row-fault-moved (mark listed ∷ parts) [] p q e = refl
-  row-fault-moved (mark listed ∷ parts) (n ∷ row) p q e = first-moved (unless (isIn n listed) (fault 4 p)) _ _ _ (unless-moved (isIn n listed) 4 p q e) (row-fault-moved parts row (p + 1) (q + 1) (omega arith))
+  row-fault-moved (mark listed ∷ parts) (n ∷ row) p q e = first-moved (unless (among listed n) (fault 4 p)) _ _ _ (unless-moved (among listed n) 4 p q e) (row-fault-moved parts row (p + 1) (q + 1) (omega arith))
   row-fault-moved (pair ∷ parts) [] p q e = refl
   row-fault-moved (pair ∷ parts) (n ∷ row) p q e = row-fault-moved parts row (p + 4) (q + 4) (omega arith)
 

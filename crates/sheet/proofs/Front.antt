@@ -12,7 +12,7 @@ use lib.Seq.{take-all, length-take-le, getD-take}
 use borrow.Author.Tests.{leb-true, lt-leb, eqb-true}
 use Rattle.rounds.specs.Rule.{mostTracks}
 use Rattle.laws.specs.Tests.{lt-or-ge}
-use Rattle.records.proofs.Firsts.{first-where}
+use Rattle.laws.specs.Faults.{first-where}
 use Rattle.sheet.specs.Rule.{Row, byteAt, twoAt, recordSize, itemRecord, Fault, fine, fault, first, sectionFault, spaceSection, trackSection, itemSection, mostItems, tracksAt, itemsAt, sheetEnd, overFault, sheetFault, longest, readCall}
 use Rattle.sheet.proofs.Accepted.{accepted, section-fine, fault-in-order}
 use Rattle.sheet.proofs.Same.{two-same, items-at-same, section-same}

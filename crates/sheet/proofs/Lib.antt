@@ -17,6 +17,8 @@ pub mod WriteCall
 -- what a sheet without fault has, and that it and its bytes give each other back
 pub mod Accepted
 pub mod RoundTrip
+-- few counts, for who lends rows
+pub mod Few
 -- the calls that read, case by case; and what an answer of a call says
 pub mod ReadCall
 pub mod Told

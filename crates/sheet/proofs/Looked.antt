@@ -3,8 +3,8 @@ use mathlib.Core.Path.{_≡_}
 use Prim.Native.Nat.{ℕ, zero, suc, _+_}
 use native.Mathlib.Nat.{not-suc-le-zero, le-of-suc-le-suc}
 use mathlib.Core.List.{List, [], _∷_}
+use Rattle.laws.specs.Faults.{fine-both}
 use Rattle.rows.specs.Shapes.{EachLong}
-use Rattle.records.proofs.Firsts.{fine-both}
 use Rattle.rows.proofs.Stands.{long-first, long-next}
 use Rattle.sheet.specs.Rule.{Part, Row, recordSize, fine, rowFault}
 use Rattle.sheet.specs.Content.{rowsFault, LookedAt}

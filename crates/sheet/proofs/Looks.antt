@@ -10,8 +10,8 @@ use lib.Dec.{leb}
 use lib.ListN.{length}
 use borrow.Author.Tests.{not-true, not-false, leb-true, le-leb}
 use Rattle.laws.specs.Tests.{never}
+use Rattle.laws.specs.Faults.{first-assoc, fine-both, fine-test}
 use Rattle.records.specs.Answer.{isFine}
-use Rattle.records.proofs.Firsts.{first-assoc, fine-both, fine-test}
 use Rattle.sheet.specs.Rule.{Part, recordSize, rowAt, Fault, fine, fault, first, wholeTo, rowFault, recordsFault}
 
 -- ---- a look x that found f, and the test b of whether that is no fault

@@ -5,7 +5,8 @@ use native.Mathlib.Omega.{arith}
 use mathlib.Core.List.{List, [], _∷_}
 use lib.Dec.{leb, eqb}
 use lib.ListN.{length}
-use Rattle.sheet.specs.Rule.{Part, Row, tagged, mark, pair, Fault, fine, fault, first, unless, isIn, taggedFault, rowAt, rowFault, recordSize, recordsFault, wholeTo, twoAt, Section, spaceSection, trackSection, itemSection, countFault, sectionFault, tracksFrom, itemsFrom, faultFrom, sheetEnd, sheetFault}
+use Rattle.laws.specs.Lists.{among}
+use Rattle.sheet.specs.Rule.{Part, Row, tagged, mark, pair, Fault, fine, fault, first, unless, taggedFault, rowAt, rowFault, recordSize, recordsFault, wholeTo, twoAt, Section, spaceSection, trackSection, itemSection, countFault, sectionFault, tracksFrom, itemsFrom, faultFrom, sheetEnd, sheetFault}
 
 -- a fault's number, where there is one
 abbrev pub faultNumber : Fault → ℕ
@@ -27,9 +28,9 @@ use-le false false n p = omega arith
 
 row-le : (parts : List Part) (row : Row) (p : ℕ) → faultNumber (rowFault parts row p) ≤ 5
 unfolding rowFault taggedFault
-row-le (tagged tags ∷ parts) (tag ∷ n ∷ row) p = first-le (taggedFault tags tag n p) _ 5 (use-le (isIn tag (tags .carrying)) (isIn tag (tags .bare)) n p) (row-le parts row (p + 5))
+row-le (tagged tags ∷ parts) (tag ∷ n ∷ row) p = first-le (taggedFault tags tag n p) _ 5 (use-le (among (tags .carrying) tag) (among (tags .bare) tag) n p) (row-le parts row (p + 5))
 row-le (tagged tags ∷ parts) (tag ∷ []) p = omega arith
-row-le (mark listed ∷ parts) (n ∷ row) p = first-le (unless (isIn n listed) (fault 4 p)) _ 5 (unless-le (isIn n listed) 4 p 5 (omega arith)) (row-le parts row (p + 1))
+row-le (mark listed ∷ parts) (n ∷ row) p = first-le (unless (among listed n) (fault 4 p)) _ 5 (unless-le (among listed n) 4 p 5 (omega arith)) (row-le parts row (p + 1))
 row-le (pair ∷ parts) (n ∷ row) p = row-le parts row (p + 4)
 row-le (tagged tags ∷ parts) [] p = omega arith
 row-le (mark listed ∷ parts) [] p = omega arith

@@ -5,12 +5,12 @@ use mathlib.Core.List.{List}
 use lib.Dec.{leb}
 use lib.ListN.{length}
 use borrow.Author.Tests.{leb-true}
+use Rattle.laws.specs.Faults.{fine-both, fine-test}
 use Rattle.rounds.specs.Rule.{mostTracks}
 use Rattle.records.specs.Answer.{refusalFault}
 use Rattle.records.specs.declared.refusal.Refusal.{Refusal}
-use Rattle.records.proofs.Firsts.{fine-both, fine-test}
 use Rattle.rows.proofs.Stands.{length-rowsAt}
-use Rattle.sheet.specs.Rule.{Row, spaceRecord, trackRecord, itemRecord, rowAt, rowsAt, twoAt, Fault, fine, fault, mostItems, countFault, trackSection, itemSection, spaceSection, tracksFrom, itemsFrom, sheetFrom, countsFaultFrom, tracksAt, itemsAt, Sheet, sheetAt, sheetFault, enough, onto, ReadTold, sheetRead, readRefused, ReadOutcome, readFault, readSheet, readAs, readCall, endFrom, endFromCall}
+use Rattle.sheet.specs.Rule.{Row, spaceRecord, trackRecord, itemRecord, rowAt, rowsAt, twoAt, Fault, fine, fault, mostItems, countFault, trackSection, itemSection, spaceSection, tracksFrom, itemsFrom, sheetFrom, countsFaultFrom, tracksAt, itemsAt, sheetAt, sheetFault, enough, onto, ReadTold, sheetRead, readRefused, ReadOutcome, readFault, readSheet, readAs, readCall, endFrom, endFromCall}
 use Rattle.sheet_kinds.specs.Kinds.{spaceRow, spaceOf}
 use Rattle.sheet.specs.Answer.{readTold, readLeaves, endTold, Loadable}
 use Rattle.sheet_kinds.specs.declared.space.Space.{Space}

@@ -6,8 +6,9 @@ use native.Mathlib.Omega.{arith}
 use mathlib.Core.List.{List, [], _∷_}
 use lib.Dec.{leb, eqb}
 use lib.ListN.{length}
+use Rattle.laws.specs.Lists.{among}
 use Rattle.rounds.specs.Rule.{mostTracks}
-use Rattle.sheet.specs.Rule.{Part, tagged, mark, pair, Row, Tags, Fault, fine, fault, first, unless, isIn, taggedFault, rowFault, recordSize, trackRecord, itemRecord, mostItems, tracksAt}
+use Rattle.sheet.specs.Rule.{Part, tagged, mark, pair, Row, Tags, Fault, fine, fault, first, unless, taggedFault, rowFault, recordSize, trackRecord, itemRecord, mostItems, tracksAt}
 use Rattle.sheet.specs.Content.{rowsFault, itemsAfter, contentFault}
 
 pub OfRows : Fault → Type 0
@@ -35,7 +36,7 @@ of-unless false number place h k = (h, k)
 
 of-tagged : (tags : Tags) (tag n p : ℕ) → OfRows (taggedFault tags tag n p)
 unfolding OfRows taggedFault
-of-tagged tags tag n p = go (isIn tag (tags .carrying)) (isIn tag (tags .bare))
+of-tagged tags tag n p = go (among (tags .carrying) tag) (among (tags .bare) tag)
   where
     go : (c b : Bool) → OfRows (cond c fine (cond b (unless (eqb n 0) (fault 5 (p + 1))) (fault 4 p)))
     go true b = tt
@@ -49,7 +50,7 @@ of-row (tagged tags ∷ parts) [] p = of-fine
 of-row (tagged tags ∷ parts) (tag ∷ []) p = of-fine
 of-row (tagged tags ∷ parts) (tag ∷ n ∷ row) p = of-first _ _ (of-tagged tags tag n p) (of-row parts row (p + 5))
 of-row (mark listed ∷ parts) [] p = of-fine
-of-row (mark listed ∷ parts) (n ∷ row) p = of-first _ _ (of-unless (isIn n listed) 4 p (omega arith) (omega arith)) (of-row parts row (p + 1))
+of-row (mark listed ∷ parts) (n ∷ row) p = of-first _ _ (of-unless (among listed n) 4 p (omega arith) (omega arith)) (of-row parts row (p + 1))
 of-row (pair ∷ parts) [] p = of-fine
 of-row (pair ∷ parts) (n ∷ row) p = of-row parts row (p + 4)
 

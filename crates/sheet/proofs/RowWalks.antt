@@ -7,8 +7,8 @@ use mathlib.Core.List.{List, [], _∷_, _++_}
 use lib.ListN.{length, getD, drop, drop-of-length-le}
 use Rattle.laws.specs.Put.{put, put-none, put-then}
 use Rattle.laws.specs.Walk.{next}
+use Rattle.laws.specs.Faults.{fine-both}
 use Rattle.records.specs.Answer.{isFine}
-use Rattle.records.proofs.Firsts.{fine-both}
 use Rattle.sheet.specs.Rule.{Part, Row, recordSize, rowBytes, rowsBytes, Fault, fine, rowFault}
 use Rattle.sheet.specs.Content.{rowsFault, LookedAt}
 use Rattle.sheet.proofs.Looks.{first-of-found, fine-of-passed, never-of-found}

@@ -5,7 +5,7 @@ use Prim.Native.Nat.{ℕ, zero, suc, _+_, _*_, _≤_, _<_}
 use native.Mathlib.Omega.{arith}
 use mathlib.Core.List.{List, [], _∷_}
 use lib.ListN.{length}
-use Rattle.records.proofs.Firsts.{first-where}
+use Rattle.laws.specs.Faults.{first-where}
 use Rattle.sheet.specs.Rule.{byteAt, twoAt, fourAt, Part, tagged, mark, pair, recordSize, rowAt, trackRecord, wholeTo, recordsFault, Section, countFault, sectionFault, sectionEnd, tracksAt, itemsAt}
 use Rattle.sheet.proofs.Looks.{whole-fine}
 use Rattle.sheet.proofs.Accepted.{count-fine}

@@ -4,8 +4,8 @@ use mathlib.Core.Bool.{true}
 use Prim.Native.Nat.{ℕ, _+_, _*_, _≤_}
 use mathlib.Core.List.{List, [], _∷_, _++_}
 use lib.ListN.{length, length-append}
+use Rattle.laws.specs.Faults.{first-where, fine-test}
 use Rattle.rows.specs.Shapes.{EachLong, width}
-use Rattle.records.proofs.Firsts.{first-where, fine-test}
 use Rattle.records.proofs.LittleEndian.{length-twoBytes}
 use Rattle.rows.proofs.Stands.{Stands, stands-front, stands-next, stands-end, two-read, length-rowBytes, row-read, length-rowsBytes, rows-first, rows-next, rows-read}
 use Rattle.sheet.specs.Rule.{Part, Row, recordSize, rowsAt, rowsBytes, twoAt, twoBytes, fault, first, unless, rowFault, recordsFault, Section, sectionFault, sectionEnd}

@@ -5,7 +5,7 @@ use Prim.Native.Nat.{ℕ}
 use lib.Dec.{eqb}
 use Rattle.records.specs.Answer.{numberOf, placeOf}
 use Rattle.records.specs.declared.refusal.Refusal.{Refusal}
-use Rattle.records.specs.declared.refusal.Refusal.the-variants.{Short, BytesOver, Count, Tag, StrayNumber, TooFewPlaces}
+use Rattle.records.specs.declared.refusal.Refusal.the-variants.{Short, BytesOver, Count, Tag, StrayNumber, LentTooShort}
 use Rattle.rows.proofs.KindRows.{space-of-row}
 use Rattle.sheet.specs.Rule.{ReadTold, sheetRead, readRefused, WriteTold, sheetWritten, writeRefused, EndTold, endAt, endRefused}
 use Rattle.sheet_kinds.specs.Kinds.{spaceOf}
@@ -30,7 +30,7 @@ refusalOf number place =
     (cond (eqb number 2) (BytesOver place)
     (cond (eqb number 3) (Count place)
     (cond (eqb number 4) (Tag place)
-    (cond (eqb number 5) (StrayNumber place) TooFewPlaces))))
+    (cond (eqb number 5) (StrayNumber place) LentTooShort))))
 
 refusal-again : (r : Refusal) → refusalOf (numberOf r) (placeOf r) ≡ r
 unfolding refusalOf
@@ -39,7 +39,7 @@ refusal-again (BytesOver place) = refl
 refusal-again (Count place) = refl
 refusal-again (Tag place) = refl
 refusal-again (StrayNumber place) = refl
-refusal-again TooFewPlaces = refl
+refusal-again LentTooShort = refl
 
 -- ---- an answer, from what it tells
 

@@ -6,9 +6,9 @@ use mathlib.Core.List.{List}
 use lib.Dec.{leb}
 use lib.ListN.{length}
 use borrow.Author.Tests.{leb-true}
+use Rattle.laws.specs.Faults.{first-where, fine-both, fine-test}
 use Rattle.records.specs.Answer.{refusalFault}
 use Rattle.records.specs.declared.refusal.Refusal.{Refusal}
-use Rattle.records.proofs.Firsts.{first-where, fine-both, fine-test}
 use Rattle.rows.specs.Shapes.{width}
 use Rattle.sheet.specs.Rule.{Row, spaceRecord, rowFault, Fault, fine, fault, first, enough, Sheet, sheetBytes, onto, sheetWritten, writeRefused, writeOutcome, writeFault, writeAs, writeCall}
 use Rattle.sheet.specs.Answer.{sheetOf, writeLeaves}

@@ -45,8 +45,8 @@ fn read_fault(bytes: &[u8], tracks: usize, items: usize) -> Fault
     let items_at = sections::items_from(bytes, 0);
     let track_count = two_at(bytes, TRACKS_AT) as usize;
     let item_count = two_at(bytes, items_at) as usize;
-    let few_tracks = Fault::unless(track_count <= tracks, Refusal::TooFewPlaces);
-    let few_items = Fault::unless(item_count <= items, Refusal::TooFewPlaces);
+    let few_tracks = Fault::unless(track_count <= tracks, Refusal::LentTooShort);
+    let few_items = Fault::unless(item_count <= items, Refusal::LentTooShort);
     few_tracks.first(few_items)
 }
 

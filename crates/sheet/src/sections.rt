@@ -12,6 +12,7 @@ ghost use lib.ListN.{length};
 ghost use Rattle.records.specs.Answer.{faultOf, lastPlace};
 ghost use Rattle.sheet.specs.Rule.{recordSize, rowAt, rowFault, recordsFault, first, wholeTo, countFault, sectionFault, tracksFrom, itemsFrom, endFrom, faultFrom, countsFaultFrom, overFault, sheetFault};
 ghost use Rattle.sheet.specs.Answer.{sectionOf, partsOf};
+ghost use Rattle.sheet.specs.Few.{saysFew};
 
 // The bytes of a count.
 pub(crate) const COUNT_SIZE: usize = 2;
@@ -21,7 +22,7 @@ pub const SPACE_AT: usize = COUNT_SIZE;
 pub(crate) const TRACKS_AT: usize = SPACE_AT + rows::SPACE_SIZE;
 
 // The bytes of a sheet without tracks and items, and of the longest.
-pub const EMPTY: usize = TRACKS_AT + COUNT_SIZE + COUNT_SIZE;
+const EMPTY: usize = TRACKS_AT + COUNT_SIZE + COUNT_SIZE;
 
 pub const LONGEST: usize = EMPTY + Track::MOST * rows::TRACK_SIZE + Item::MOST * rows::ITEM_SIZE;
 
@@ -54,7 +55,7 @@ impl Section {
     }
 
     // What is wrong with the record at a place: it is not wholly there, or something inside it.
-    fn record_fault(self, bytes: &[u8], at: usize) -> Fault
+    fn whole_row_fault(self, bytes: &[u8], at: usize) -> Fault
         ensures { λ r. ⌜ faultOf r ≡ first (wholeTo (now (bytes .entry)) (at + recordSize (partsOf self))) (rowFault (partsOf self) (rowAt (partsOf self) (now (bytes .entry)) at) at) ⌝ }
     {
         let size = self.size();
@@ -77,7 +78,7 @@ impl Section {
         let mut at = from;
         let mut left = count;
         while left > 0 {
-            let fault = self.record_fault(bytes, at);
+            let fault = self.whole_row_fault(bytes, at);
             if !fault.is_fine() {
                 return fault;
             }
@@ -194,4 +195,21 @@ pub fn over_fault(bytes: &[u8], end: usize) -> Fault
     ensures { λ r. ⌜ faultOf r ≡ overFault (now (bytes .entry)) end ⌝ }
 {
     Fault::unless(bytes.len() <= end, Refusal::BytesOver { at: end })
+}
+
+// Whether both counts are there and say no more than so many tracks and items. Nothing else is read.
+pub fn says_few(bytes: &[u8], tracks: usize, items: usize) -> bool
+    ensures { λ r. ⌜ r ≡ saysFew (now (bytes .entry)) tracks items ⌝ }
+{
+    if !reaches(bytes.len(), TRACKS_AT, COUNT_SIZE) {
+        return false;
+    }
+    if two_at(bytes, TRACKS_AT) as usize > tracks {
+        return false;
+    }
+    let items_at = items_from(bytes, 0);
+    if !reaches(bytes.len(), items_at, COUNT_SIZE) {
+        return false;
+    }
+    two_at(bytes, items_at) as usize <= items
 }

@@ -39,14 +39,15 @@ pub fn write(space: Space, tracks: &[[u32; 4]], items: &[[u32; 7]], bytes: &mut 
 
 // 3 to 5 where the bytes would show them, then 6. A space has no fault: what is wrong in its bytes cannot be said by its type.
 fn write_fault(tracks: &[[u32; 4]], items: &[[u32; 7]], lent: usize) -> Fault
-    ensures { λ r. ⌜ (faultOf r ≡ first (contentFault (now (tracks .entry)) (now (items .entry))) (enough (sheetSize (length (now (tracks .entry))) (length (now (items .entry)))) lent)) × Looked (now (tracks .entry)) (now (items .entry)) ⌝ }
+    ensures { λ r. ⌜ (faultOf r ≡ first (contentFault (now (tracks .entry)) (now (items .entry))) (enough (sheetSize (length (now (tracks .entry))) (length (now (items .entry)))) lent))
+        × Looked (now (tracks .entry)) (now (items .entry)) ⌝ }
 {
     let fault = content_fault(tracks, items);
     if !fault.is_fine() {
         return fault;
     }
     let size = sheet_size(tracks.len(), items.len());
-    Fault::unless(size <= lent, Refusal::TooFewPlaces)
+    Fault::unless(size <= lent, Refusal::LentTooShort)
 }
 
 fn content_fault(tracks: &[[u32; 4]], items: &[[u32; 7]]) -> Fault
@@ -147,7 +148,9 @@ fn put_tracks(tracks: &[[u32; 4]], bytes: &mut [u8])
 }
 
 fn put_items(items: &[[u32; 7]], bytes: &mut [u8], at: usize)
-    requires { ⌜ (itemsFault (now items) at ≡ fine) × EachLong 7 (now items) × (at + 2 + length (now items) * recordSize itemRecord ≤ length (now bytes)) ⌝ }
+    requires { ⌜ (itemsFault (now items) at ≡ fine)
+        × EachLong 7 (now items)
+        × (at + 2 + length (now items) * recordSize itemRecord ≤ length (now bytes)) ⌝ }
     ensures { λ _. ⌜ now (bytes .exit) ≡ put at (sectionBytes itemRecord (now (items .entry))) (now (bytes .entry)) ⌝ }
 {
     put_two(items.len() as u32, bytes, at);
@@ -155,7 +158,9 @@ fn put_items(items: &[[u32; 7]], bytes: &mut [u8], at: usize)
 }
 
 fn put_track_rows(tracks: &[[u32; 4]], bytes: &mut [u8], from: usize)
-    requires { ⌜ (rowsFault trackRecord (now tracks) from ≡ fine) × EachLong 4 (now tracks) × (from + length (now tracks) * recordSize trackRecord ≤ length (now bytes)) ⌝ }
+    requires { ⌜ (rowsFault trackRecord (now tracks) from ≡ fine)
+        × EachLong 4 (now tracks)
+        × (from + length (now tracks) * recordSize trackRecord ≤ length (now bytes)) ⌝ }
     ensures { λ _. ⌜ now (bytes .exit) ≡ put from (rowsBytes trackRecord (now (tracks .entry))) (now (bytes .entry)) ⌝ }
 {
     let mut at = from;
@@ -168,7 +173,9 @@ fn put_track_rows(tracks: &[[u32; 4]], bytes: &mut [u8], from: usize)
 }
 
 fn put_item_rows(items: &[[u32; 7]], bytes: &mut [u8], from: usize)
-    requires { ⌜ (rowsFault itemRecord (now items) from ≡ fine) × EachLong 7 (now items) × (from + length (now items) * recordSize itemRecord ≤ length (now bytes)) ⌝ }
+    requires { ⌜ (rowsFault itemRecord (now items) from ≡ fine)
+        × EachLong 7 (now items)
+        × (from + length (now items) * recordSize itemRecord ≤ length (now bytes)) ⌝ }
     ensures { λ _. ⌜ now (bytes .exit) ≡ put from (rowsBytes itemRecord (now (items .entry))) (now (bytes .entry)) ⌝ }
 {
     let mut at = from;

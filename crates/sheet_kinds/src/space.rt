@@ -1,16 +1,10 @@
 // The space: what it asks of the board, its inner size, whether it stretches; and its limit.
 use kinds::Amount;
 use kinds::Constraint;
+use kinds::bit;
 ghost use mathlib.Core.Path.{_≡_};
-ghost use Rattle.laws.specs.Marks.{bit};
 ghost use Rattle.sheet_kinds.specs.Kinds.{spaceOf, spaceRow};
 ghost use Rattle.sheet_kinds.specs.Rule.{expansion};
-
-fn bit(mark: bool) -> u32
-    ensures { λ r. ⌜ r ≡ bit mark ⌝ }
-{
-    if mark { 1 } else { 0 }
-}
 
 pub struct Space {
     pub constraint: Constraint,

@@ -1,4 +1,4 @@
--- A board has a place for each track: no step adds a line or takes one away. Assumes nothing.
+-- A board tells sizes for each track: no step adds a line or takes one away. Assumes nothing.
 use mathlib.Core.Path.{_≡_, refl, _∙_}
 use mathlib.Core.Bool.{Bool, true, false}
 use mathlib.Core.List.{List, [], _∷_, map}
@@ -6,6 +6,7 @@ use Prim.Native.Nat.{ℕ, _-_}
 use lib.ListN.{length, length-map}
 use Rattle.laws.specs.Lists.{upFrom, keep, inTurn, length-zip}
 use Rattle.laws.specs.Alls.{image-all}
+use Rattle.laws.specs.Changes.{in-turn-long}
 use Rattle.rounds.specs.Rule.{gainsOf, fill}
 use Rattle.rounds.specs.Rule as fill
 use Rattle.rounds.proofs.Fresh.{length-gains}
@@ -16,18 +17,12 @@ use Rattle.kinds.specs.declared.track.Track.{Track}
 use Rattle.lines.specs.declared.line.Line.{Line}
 use Rattle.lines.specs.declared.limit.Limit.the-variants.{UpTo}
 use Rattle.lines.specs.declared.measured.Measured.{Measured}
-use Rattle.lines.specs.Rule.{Letter, withBase, withLimit, limitSize, bases, measuredItems, onFr, settled, startLine, start, inOneTrack, singles, grownBase, letters, raise, batched, inSpan, longer, lastBatch, missing, content, filledLines, maximiseTrack, maximise, stretchTrack, stretched, frFor, finish, placeOf, size}
+use Rattle.lines.specs.Rule.{Letter, withBase, withLimit, limitSize, bases, measuredItems, onFr, settled, startLine, start, inOneTrack, singles, grownBase, letters, raise, batched, inSpan, longer, lastBatch, missing, content, filledLines, maximiseTrack, maximise, stretchTrack, stretched, frFor, finish, sizesOf, size}
 use Rattle.lines.proofs.Fits.{length-take-singles}
 use Rattle.letters.proofs.Keeps.{length-raise}
 use Rattle.flexible.proofs.Expanded.{length-expand}
 
 -- ---- steps 1 to 4
-
-in-turn-long : {A : Type 0} (f : A → List Line → List Line) → ((a : A) (ls : List Line) → length (f a ls) ≡ length ls)
-    → (xs : List A) (ls : List Line) → length (inTurn f xs ls) ≡ length ls
-unfolding inTurn
-in-turn-long f k [] ls = refl
-in-turn-long f k (a ∷ xs) ls = in-turn-long f k xs (f a ls) ∙ k a ls
 
 length-batched : (c : Constraint) (batch : List Measured) (ls : List Line) → length (batched c batch ls) ≡ length ls
 unfolding batched
@@ -70,12 +65,12 @@ length-finish e asked ts is ls = length-stretched asked e _ ∙ length-expand (f
 
 -- ---- the board
 
-pub length-size : (c e : Constraint) (asked : Bool) (ts : List Track) (is : List Item) → length (size c e asked ts is .places) ≡ length ts
+pub length-size : (c e : Constraint) (asked : Bool) (ts : List Track) (is : List Item) → length (size c e asked ts is .sizes) ≡ length ts
 unfolding size
 length-size c e asked ts is =
     let ms = measuredItems ts is in
     let ls = content c ts ms in
-    length-map (finish e asked ts ms (maximise c ls .lines)) placeOf
+    length-map (finish e asked ts ms (maximise c ls .lines)) sizesOf
     ∙ length-finish e asked ts ms (maximise c ls .lines)
     ∙ length-maximise c ls
     ∙ length-content c ts ms

@@ -9,7 +9,6 @@ use lib.ListN.{length, getD, replicate, length-map, length-replicate}
 use Rattle.laws.specs.Tests.{never}
 use Rattle.laws.specs.Lists.{length-zip}
 use Rattle.laws.specs.Alls.{all-image-at}
-use Rattle.laws.specs.Sums.{sum}
 use Rattle.rounds.specs.Rule.{mostDots, gainsOf, Fill, fill}
 use Rattle.rounds.proofs.Fresh.{gain-add-left-le, length-gains}
 use Rattle.kinds.specs.Kinds.{Row}
@@ -23,7 +22,7 @@ use Rattle.letters.specs.declared.share.Share.the-variants.{Maximise, Stretch}
 use Rattle.letters.specs.Letters.{most}
 use Rattle.letters.specs.Shares.{shareTrack, shareTracks}
 use Rattle.letters.proofs.Shared.{share-fresh, zeros-more, zeros-of-lines, tracks-of-zeros}
-use Rattle.sizing.specs.Size.{BasesFit, maximised}
+use Rattle.sizing.specs.Size.{mostBase, BasesFit, maximised}
 
 -- ---- one fill
 
@@ -53,7 +52,7 @@ module _ (share : Share) (dots : ℕ) (rows : List Row) (zs : List ℕ) (z : zs 
     -- a base and its gain are within 32 bits
     pub shared-fits : dots ≤ mostDots → BasesFit (linesOf rows) → (i : ℕ) → i < length rows → lineOf (getD rows i []) .base + getD gs i 0 ≤ most
     shared-fits d b i h =
-        let base : lineOf (getD rows i []) .base ≤ 4000000000 = all-image-at (λ (l : Line). l .base ≤ 4000000000) lineOf rows i [] b h in
+        let base : lineOf (getD rows i []) .base ≤ mostBase = all-image-at (λ (l : Line). l .base ≤ mostBase) lineOf rows i [] b h in
         let gain = gain-add-left-le dots (shareTracks share (linesOf rows) zs) (share-fresh share (linesOf rows) zs) i in
         let same : getD gs i 0 ≡ getD (gainsOf (sharedFill .tracks)) i 0 = ap (λ (ys : List ℕ). getD ys i 0) shared-gains in
         omega arith
@@ -74,9 +73,8 @@ module _ (rows : List Row) (zs : List ℕ) (z : zs ≡ replicate (length rows) 0
       ap (λ (ys : List ℕ). fill dots (shareTracks Stretch (linesOf rows) ys)) (zeros-of-lines rows (length rows) zs z refl)
       ∙ ap (fill dots) (tracks-of-zeros Stretch (linesOf rows))
 
-  module _ (n total dots : ℕ) (whole : total ≡ sum (map (λ (l : Line). l .base) (linesOf rows))) (free : dots ≡ n - total) where
+  module _ (n total dots : ℕ) (whole : total ≡ bases (linesOf rows)) (free : dots ≡ n - total) where
     free-dots : dots ≡ n - bases (linesOf rows)
-    unfolding bases
     free-dots = free ∙ ap (λ (t : ℕ). n - t) whole
 
     -- step 5 in a definite space

@@ -21,7 +21,7 @@ use Rattle.flexible.specs.Flexes.{frOver, mostGrown}
 use Rattle.flexible.proofs.Bounds.{fr-over-bounds}
 use Rattle.flexible.proofs.Expanded.{expand-base-le}
 use Rattle.flexible.proofs.Rule.{fr-for-is}
-use Rattle.sizing.specs.Size.{BasesFit, FreeFits, finishedLines}
+use Rattle.sizing.specs.Size.{mostBase, BasesFit, FreeFits, finishedLines}
 use Rattle.sizing.proofs.FreeFits.{free-fits}
 
 -- with the items on an fr track as the batch
@@ -31,7 +31,7 @@ finished-is e asked ts is ls = ap (λ (fr : Fr). stretched asked e (expand fr ls
 
 -- a bound that leaves more room
 bases-fit : (ls : List Line) → All (λ (l : Line). l .base ≤ mostGrown) ls → BasesFit ls
-bases-fit ls a = all-map (λ (l : Line). l .base ≤ mostGrown) (λ (l : Line). l .base ≤ 4000000000) (λ l (h : l .base ≤ mostGrown). omega arith) ls a
+bases-fit ls a = all-map (λ (l : Line). l .base ≤ mostGrown) (λ (l : Line). l .base ≤ mostBase) (λ l (h : l .base ≤ mostGrown). omega arith) ls a
 
 -- ---- the lines after step 6
 

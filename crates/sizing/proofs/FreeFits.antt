@@ -22,7 +22,7 @@ use Rattle.lines.specs.Rule.{dots, bases, expand, freeOf}
 use Rattle.lines.specs.Fits.{LinesFit}
 use Rattle.flexible.specs.Flexes.{definiteFr}
 use Rattle.flexible.proofs.Growth.{bases-definite-le}
-use Rattle.sizing.specs.Size.{FreeFits, finishedLines}
+use Rattle.sizing.specs.Size.{mostFree, mostLacking, FreeFits, finishedLines}
 use Rattle.sizing.proofs.Bases.{bases-le, bases-stretched-le}
 use Rattle.sizing.proofs.Difference.{sub-fits}
 
@@ -34,17 +34,15 @@ free-fits MaxContent asked batch ls f few h = tt
 
 -- ---- as the code tells it, in a definite space of n dots
 
-module _ (e : Constraint) (n total : ℕ) (ls : List Line) (definite : e ≡ Definite n) (whole : total ≡ sum (map (λ (l : Line). l .base) ls)) where
-  pub free-asked : constraintNumber e ≤ mostDots → FreeFits e ls → (n ≤ total + 2147483647) × (total ≤ n + 2147483648)
-  unfolding bases
+module _ (e : Constraint) (n total : ℕ) (ls : List Line) (definite : e ≡ Definite n) (whole : total ≡ bases ls) where
+  pub free-asked : constraintNumber e ≤ mostDots → FreeFits e ls → (n ≤ total + mostFree) × (total ≤ n + mostLacking)
   free-asked h f =
       let small : n ≤ mostDots = subst (λ (k : Constraint). constraintNumber k ≤ mostDots) definite h in
-      let fits : bases ls ≤ n + 2147483648 = subst (λ (k : Constraint). FreeFits k ls) definite f in
+      let fits : bases ls ≤ n + mostLacking = subst (λ (k : Constraint). FreeFits k ls) definite f in
       (omega arith, omega arith)
 
   -- the difference as 32 bits hold it
   pub free-told : (d : ℤ) → constraintNumber e ≤ mostDots → FreeFits e ls → d ≡ subℕ n total → dots (toZ w32 (ofZ w32 d)) ≡ freeOf e ls
-  unfolding bases
   free-told d h f p =
       let within = free-asked h f in
       ap (λ (z : ℤ). dots (toZ w32 (ofZ w32 z))) p

@@ -1,37 +1,39 @@
-// Steps 5 and 7: free dots are filled into the lines.
+// Steps 5 and 7: free dots are filled into the bases.
 use kinds::Constraint;
-use letters::Letter;
 use letters::Share;
-use letters::apply;
+use letters::base_total;
 use letters::beyond;
-use letters::present_total;
+use letters::grow_bases;
 use letters::share_out;
 use lines::Pass;
 use lines::pass_over;
 ghost use mathlib.Core.Path.{_≡_};
 ghost use Prim.Native.Nat.{_≤_};
-ghost use lib.ListN.{length, replicate};
-ghost use Rattle.rounds.specs.Rule.{mostTracks, mostDots, fill};
-ghost use Rattle.kinds.specs.Kinds.{constraintNumber};
+ghost use Rattle.rounds.specs.Rule.{mostDots};
+ghost use Rattle.spanned.specs.Sound.{ConstraintFits};
 ghost use Rattle.lines.specs.Rule.{filledLines, maximise, stretched};
 ghost use Rattle.lines.specs.Rows.{linesOf};
-ghost use Rattle.letters.specs.Shares.{shareTracks};
-ghost use Rattle.sizing.specs.Size.{BasesFit, maximised};
+ghost use Rattle.letters.specs.Increases.{NoIncrease};
+ghost use Rattle.letters.specs.Shares.{shareFill};
+ghost use Rattle.sizing.specs.Size.{maximised};
+ghost use Rattle.sizing.specs.Store.{Filling};
 
-// Each base grows by what the fill gives it; the rounds come back. The increases are all 0 before and after.
-fn fill_lines(
+// Each base grows by what the fill gives it; the rounds come back. No increase is planned before and after.
+fn fill_bases(
     share: Share,
     dots: u32,
     lines: &mut [[u32; 8]],
     increases: &mut [u32],
     rests: &mut [u32],
 ) -> u32
-    requires { ⌜ (length (now lines) ≤ mostTracks) × (dots ≤ mostDots) × BasesFit (linesOf (now lines)) × (now increases ≡ replicate (length (now lines)) 0) × (length (now rests) ≡ length (now lines)) ⌝ }
-    ensures { λ r. ⌜ (linesOf (now (lines .exit)) ≡ filledLines (linesOf (now (lines .entry))) (fill dots (shareTracks share (linesOf (now (lines .entry))) (now (increases .entry))))) × (r ≡ fill dots (shareTracks share (linesOf (now (lines .entry))) (now (increases .entry))) .rounds) × (now (increases .exit) ≡ replicate (length (now (lines .entry))) 0) ⌝ }
+    requires { ⌜ Filling (now lines) (now increases) (now rests) × (dots ≤ mostDots) ⌝ }
+    ensures { λ r. ⌜ (linesOf (now (lines .exit)) ≡ filledLines (linesOf (now (lines .entry))) (shareFill share dots (now (lines .entry)) (now (increases .entry))))
+        × (r ≡ shareFill share dots (now (lines .entry)) (now (increases .entry)) .rounds)
+        × NoIncrease (now (lines .entry)) (now (increases .exit)) ⌝ }
 {
-    let done = share_out(share, dots, lines, increases, rests);
-    apply(Letter::A, lines, increases);
-    done.rounds
+    let rounds = share_out(share, dots, lines, increases, rests);
+    grow_bases(lines, increases);
+    rounds
 }
 
 // Step 5. The rounds come back.
@@ -41,15 +43,16 @@ pub(crate) fn maximise(
     increases: &mut [u32],
     rests: &mut [u32],
 ) -> u32
-    requires { ⌜ (length (now lines) ≤ mostTracks) × (constraintNumber constraint ≤ mostDots) × BasesFit (linesOf (now lines)) × (now increases ≡ replicate (length (now lines)) 0) × (length (now rests) ≡ length (now lines)) ⌝ }
-    ensures { λ r. ⌜ (maximised (linesOf (now (lines .exit))) r ≡ maximise constraint (linesOf (now (lines .entry)))) × (now (increases .exit) ≡ replicate (length (now (lines .entry))) 0) ⌝ }
+    requires { ⌜ Filling (now lines) (now increases) (now rests) × ConstraintFits constraint ⌝ }
+    ensures { λ r. ⌜ (maximised (linesOf (now (lines .exit))) r ≡ maximise constraint (linesOf (now (lines .entry))))
+        × NoIncrease (now (lines .entry)) (now (increases .exit)) ⌝ }
 {
     match constraint {
         Constraint::Definite(n) => {
-            let dots = beyond(n, present_total(Letter::A, lines));
-            fill_lines(Share::Maximise, dots, lines, increases, rests)
+            let dots = beyond(n, base_total(lines));
+            fill_bases(Share::Maximise, dots, lines, increases, rests)
         }
-        Constraint::MinContent => fill_lines(Share::Maximise, 0, lines, increases, rests),
+        Constraint::MinContent => fill_bases(Share::Maximise, 0, lines, increases, rests),
         Constraint::MaxContent => {
             pass_over(Pass::ToLimits, lines);
             0
@@ -65,7 +68,7 @@ pub(crate) fn stretch(
     increases: &mut [u32],
     rests: &mut [u32],
 )
-    requires { ⌜ (length (now lines) ≤ mostTracks) × (constraintNumber expansion ≤ mostDots) × BasesFit (linesOf (now lines)) × (now increases ≡ replicate (length (now lines)) 0) × (length (now rests) ≡ length (now lines)) ⌝ }
+    requires { ⌜ Filling (now lines) (now increases) (now rests) × ConstraintFits expansion ⌝ }
     ensures { λ _. ⌜ linesOf (now (lines .exit)) ≡ stretched asked expansion (linesOf (now (lines .entry))) ⌝ }
 {
     if !asked {
@@ -73,8 +76,8 @@ pub(crate) fn stretch(
     }
     match expansion {
         Constraint::Definite(n) => {
-            let dots = beyond(n, present_total(Letter::A, lines));
-            fill_lines(Share::Stretch, dots, lines, increases, rests);
+            let dots = beyond(n, base_total(lines));
+            fill_bases(Share::Stretch, dots, lines, increases, rests);
         }
         Constraint::MinContent => {}
         Constraint::MaxContent => {}

@@ -1,32 +1,30 @@
-// Steps 6 and 7, the free space and the places: what is told of a board.
+// Steps 6 and 7, then the sizes and the free space: what is told of a board.
 use crate::dots::stretch;
 use crate::free::Free;
 use crate::free::difference;
 use flexible::flex;
 use kinds::Constraint;
-use letters::Letter;
-use letters::present_total;
+use letters::base_total;
 use lines::Line;
 ghost use mathlib.Core.Path.{_≡_};
 ghost use mathlib.Core.List.{map};
 ghost use Prim.Native.Nat.{_≤_};
-ghost use lib.ListN.{length, replicate};
-ghost use Rattle.rounds.specs.Rule.{mostTracks, mostDots};
-ghost use Rattle.kinds.specs.Kinds.{constraintNumber};
-ghost use Rattle.lines.specs.Rule.{freeOf, placeOf};
+ghost use lib.ListN.{length};
+ghost use Rattle.rounds.specs.Rule.{mostTracks};
+ghost use Rattle.lines.specs.Rule.{freeOf, sizesOf};
 ghost use Rattle.lines.specs.Rows.{linesOf};
 ghost use Rattle.spanned.specs.Sound.{ConstraintFits};
-ghost use Rattle.lines.specs.Fits.{LinesFit};
-ghost use Rattle.lines.specs.Chains.{chained, ChainFits};
-ghost use Rattle.sizing.specs.Size.{freeTold, FreeFits, finishedLines};
+ghost use Rattle.lines.specs.Chains.{ChainFits};
+ghost use Rattle.sizing.specs.Size.{freeTold, FreeFits, finishedRows};
+ghost use Rattle.sizing.specs.Store.{Finishing};
 
 pub(crate) fn free_of(expansion: Constraint, lines: &[[u32; 8]]) -> Free
-    requires { ⌜ (length (now lines) ≤ mostTracks) × (constraintNumber expansion ≤ mostDots) × FreeFits expansion (linesOf (now lines)) ⌝ }
+    requires { ⌜ (length (now lines) ≤ mostTracks) × ConstraintFits expansion × FreeFits expansion (linesOf (now lines)) ⌝ }
     ensures { λ r. ⌜ freeTold r ≡ freeOf expansion (linesOf (now (lines .entry))) ⌝ }
 {
     match expansion {
         Constraint::Definite(n) => {
-            let total = present_total(Letter::A, lines);
+            let total = base_total(lines);
             Free::Dots(difference(n as u64, total))
         }
         Constraint::MinContent => Free::None,
@@ -35,19 +33,19 @@ pub(crate) fn free_of(expansion: Constraint, lines: &[[u32; 8]]) -> Free
 }
 
 // Base and limit of every line.
-pub(crate) fn write_places(lines: &[[u32; 8]], places: &mut [[u32; 2]])
-    requires { ⌜ length (now places) ≡ length (now lines) ⌝ }
-    ensures { λ _. ⌜ now (places .exit) ≡ map placeOf (linesOf (now (lines .entry))) ⌝ }
+pub(crate) fn write_sizes(lines: &[[u32; 8]], sizes: &mut [[u32; 2]])
+    requires { ⌜ length (now sizes) ≡ length (now lines) ⌝ }
+    ensures { λ _. ⌜ now (sizes .exit) ≡ map sizesOf (linesOf (now (lines .entry))) ⌝ }
 {
     let mut i = 0;
-    while i < places.len() {
+    while i < sizes.len() {
         let line = Line::of_row(lines[i]);
-        places[i] = [line.base, line.limit_size()];
+        sizes[i] = [line.base, line.limit_size()];
         i += 1;
     }
 }
 
-// Steps 6 and 7, then the places; the free space comes back. `first` heads the chain of the items on an fr track.
+// Steps 6 and 7, then the sizes; the free space comes back. `first` heads the chain of the items on an fr track.
 pub(crate) fn finish(
     expansion: Constraint,
     asked: bool,
@@ -58,14 +56,17 @@ pub(crate) fn finish(
     increases: &mut [u32],
     rests: &mut [u32],
     held: &mut [bool],
-    places: &mut [[u32; 2]],
+    sizes: &mut [[u32; 2]],
 ) -> Free
-    requires { ⌜ ConstraintFits expansion × (length (now lines) ≤ mostTracks) × LinesFit (linesOf (now lines)) × ChainFits (length (now lines)) (now items) (now nexts) first × (now increases ≡ replicate (length (now lines)) 0) × (length (now rests) ≡ length (now lines)) × (length (now held) ≡ length (now lines)) × (length (now places) ≡ length (now lines)) ⌝ }
-    ensures { λ r. ⌜ (freeTold r ≡ freeOf expansion (finishedLines expansion asked (chained (now (items .entry)) (now (nexts .entry)) first) (linesOf (now (lines .entry))))) × (now (places .exit) ≡ map placeOf (finishedLines expansion asked (chained (now (items .entry)) (now (nexts .entry)) first) (linesOf (now (lines .entry))))) ⌝ }
+    requires { ⌜ Finishing (now lines) (now increases) (now rests) (now held) (now sizes)
+        × ChainFits (length (now lines)) (now items) (now nexts) first
+        × ConstraintFits expansion ⌝ }
+    ensures { λ r. ⌜ (freeTold r ≡ freeOf expansion (finishedRows expansion asked (now (items .entry)) (now (nexts .entry)) first (now (lines .entry))))
+        × (now (sizes .exit) ≡ map sizesOf (finishedRows expansion asked (now (items .entry)) (now (nexts .entry)) first (now (lines .entry)))) ⌝ }
 {
-    let total = present_total(Letter::A, lines);
+    let total = base_total(lines);
     flex(expansion, total, first, nexts, items, lines, held);
     stretch(asked, expansion, lines, increases, rests);
-    write_places(lines, places);
+    write_sizes(lines, sizes);
     free_of(expansion, lines)
 }

@@ -2,6 +2,7 @@
 ghost use mathlib.Core.Path.{_≡_};
 ghost use Prim.Native.Nat.{_+_, _≤_};
 ghost use lib.IntN.{subℕ};
+ghost use Rattle.sizing.specs.Size.{mostFree, mostLacking};
 
 pub enum Free {
     None,
@@ -10,7 +11,7 @@ pub enum Free {
 
 // dots - total, exact wherever an i32 can say it: down to -2,147,483,648 and up to 2,147,483,647.
 pub(crate) fn difference(dots: u64, total: u64) -> i32
-    requires { ⌜ (dots ≤ total + 2147483647) × (total ≤ dots + 2147483648) ⌝ }
+    requires { ⌜ (dots ≤ total + mostFree) × (total ≤ dots + mostLacking) ⌝ }
     ensures { λ r. ⌜ r ≡ subℕ dots total ⌝ }
 {
     if total <= dots {

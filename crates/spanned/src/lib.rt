@@ -1,5 +1,7 @@
-// What an item spans: a measured item spans a track that is not fixed at both ends (specs/Rule.antt is the rule). A look at what is
+// What an item spans, and what it lacks: a measured item spans a track that is not fixed at both ends (specs/Rule.antt is the rule). A look at what is
 // spanned takes the span's tracks and no more; a span is cut to the tracks that there are, so it asks nothing of its caller.
+use kinds::Amount;
+use kinds::ContributionKind;
 use kinds::Item;
 use kinds::Maximum;
 use kinds::Minimum;
@@ -8,7 +10,7 @@ ghost use mathlib.Core.Path.{_≡_};
 ghost use Prim.Native.Nat.{_+_, min};
 ghost use mathlib.Core.List.{map};
 ghost use Rattle.kinds.specs.Kinds.{trackOf};
-ghost use Rattle.spanned.specs.Rule.{isFixed, isFr, isMeasured, crossesFr};
+ghost use Rattle.spanned.specs.Rule.{isFixed, isFr, isMeasured, crossesFr, lacksContribution};
 
 fn is_fixed(track: Track) -> bool
     ensures { λ r. ⌜ r ≡ isFixed track ⌝ }
@@ -30,7 +32,7 @@ fn is_fixed(track: Track) -> bool
     }
 }
 
-fn is_fr(track: Track) -> bool
+pub fn is_fr(track: Track) -> bool
     ensures { λ r. ⌜ r ≡ isFr track ⌝ }
 {
     let maximum = track.maximum;
@@ -78,4 +80,24 @@ pub fn crosses_fr(tracks: &[[u32; 4]], item: Item) -> bool
         t += 1;
     }
     false
+}
+
+// One of an item's three contributions is absent.
+pub fn lacks_contribution(item: Item) -> bool
+    ensures { λ r. ⌜ r ≡ lacksContribution item ⌝ }
+{
+    let minimum = item.amount(ContributionKind::Minimum);
+    let min_content = item.amount(ContributionKind::MinContent);
+    let max_content = item.amount(ContributionKind::MaxContent);
+    if let Amount::Absent = minimum {
+        return true;
+    }
+    if let Amount::Absent = min_content {
+        return true;
+    }
+    if let Amount::Absent = max_content {
+        true
+    } else {
+        false
+    }
 }

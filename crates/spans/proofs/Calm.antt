@@ -8,7 +8,8 @@ use native.Mathlib.Omega.{arith}
 use borrow.Author.Tests.{eqb-true, not-false}
 use lib.Dec.{ltb, eqb}
 use lib.ListN.{length, replicate}
-use Rattle.laws.specs.Lists.{All, inTurn, changeAt}
+use Rattle.laws.specs.Lists.{All, inTurn}
+use Rattle.laws.specs.Changes.{all-change, in-turn-keeps}
 use Rattle.laws.specs.Alls.{all-map, all-image, image-all}
 use Rattle.kinds.specs.declared.constraint.Constraint.{Constraint}
 use Rattle.kinds.specs.declared.constraint.Constraint.the-variants.{Definite, MinContent, MaxContent}
@@ -20,7 +21,7 @@ use Rattle.lines.specs.declared.measured.Measured.{Measured}
 use Rattle.lines.specs.Rule.{line, atLeast, limitPlus, isNone, settled, grownBase, grownLimit, raise, startLine, start, withItem, withItemAt, singles}
 use Rattle.letters.specs.declared.letter.Letter.{Letter}
 use Rattle.letters.specs.declared.letter.Letter.the-variants.{A, B, C, D, E, F}
-use Rattle.letters.specs.Letters.{letterOf, settles}
+use Rattle.letters.specs.Letters.{letterOf, changesUnraised}
 use Rattle.spans.specs.Work.{above, AtRest, Calm, letterStep, letterSteps}
 use Rattle.spans.proofs.Parts.{all-zip}
 
@@ -40,11 +41,11 @@ unmarked true (UpTo n) = refl
 unmarked false limit = refl
 
 base-stays : (l : Line) → grownBase l 0 ≡ l
-base-stays l = ap (λ (b : ℕ). line (l .track) b (l .limit) (l .grows)) (add-zero (l .base))
+base-stays l = ap (λ (b : ℕ). line (l .track) b (l .limit) (l .growable)) (add-zero (l .base))
 
 module _ (l : Line) (r : AtRest l) where
   settled-stays : settled l ≡ l
-  settled-stays = ap (λ (m : Limit). line (l .track) (l .base) m (l .grows)) (at-least-above (l .base) (l .limit) (r .0))
+  settled-stays = ap (λ (m : Limit). line (l .track) (l .base) m (l .growable)) (at-least-above (l .base) (l .limit) (r .0))
 
   limit-stays : (marks : Bool) → grownLimit marks l 0 ≡ l
   limit-stays marks =
@@ -69,8 +70,8 @@ unfolding zipWith
 bases-stay [] = refl
 bases-stay (l ∷ ls) = rw (base-stays l) (ap (l ∷_) (bases-stay ls))
 
--- lines that are calm, or a letter that settles nothing
-pub lines-stay : (letter : Letter) (moved : Bool) (ls : List Line) → (moved && settles letter) ≡ false → (moved ≡ false → Calm ls)
+-- lines that are calm, or a letter that changes no line without an increase
+pub lines-stay : (letter : Letter) (moved : Bool) (ls : List Line) → (moved && changesUnraised letter) ≡ false → (moved ≡ false → Calm ls)
     → zipWith (letterOf letter .grown) ls (replicate (length ls) 0) ≡ ls
 lines-stay letter false ls e calm = calm-stays letter ls (calm refl)
 lines-stay A true ls e calm = bases-stay ls
@@ -98,9 +99,9 @@ abbrev Settled : Line → Type 0
 Settled l = above (l .base) (l .limit)
 
 abbrev Unmarked : Line → Type 0
-Unmarked l = l .grows ≡ false
+Unmarked l = l .growable ≡ false
 
--- (a) to (c) leave the marks, and (d) settles
+-- (a) to (c) leave the marks, and (d) lifts limits to the base
 bases-unmarked : (ls : List Line) (ps : List ℕ) → All Unmarked ls → All Unmarked (zipWith grownBase ls ps)
 bases-unmarked = all-zip grownBase Unmarked Unmarked (λ (l : Line) (p : ℕ) (u : Unmarked l). u)
 
@@ -142,16 +143,8 @@ start-unmarked : (ts : List Track) → All Unmarked (start ts)
 unfolding start
 start-unmarked ts = image-all Unmarked startLine (λ (t : Track). refl) ts
 
-change-unmarked : (c : Constraint) (i : Measured) (k : ℕ) (ls : List Line) → All Unmarked ls → All Unmarked (changeAt k (withItem c i) ls)
-unfolding All changeAt
-change-unmarked c i k [] u = tt
-change-unmarked c i zero (l ∷ ls) u = u
-change-unmarked c i (suc k) (l ∷ ls) u = (u .0, change-unmarked c i k ls (u .1))
-
 items-unmarked : (c : Constraint) (is : List Measured) (ls : List Line) → All Unmarked ls → All Unmarked (inTurn (withItemAt c) is ls)
-unfolding inTurn
-items-unmarked c [] ls u = u
-items-unmarked c (i ∷ is) ls u = items-unmarked c is (withItemAt c i ls) (change-unmarked c i (i .start) ls u)
+items-unmarked c is ls u = in-turn-keeps (All Unmarked) (withItemAt c) (λ i on v. all-change Unmarked (withItem c i) (λ l k. k) (i .start) on v) is ls u
 
 pub singles-calm : (c : Constraint) (is : List Measured) (ts : List Track) → Calm (singles c is (start ts))
 unfolding singles

@@ -41,12 +41,12 @@ module _ (c : Constraint) (item : Measured) (rows : List Row) (v : Row) (l : Lin
     (a : asked ≡ baseAsked c item l (l .track .minimum))
     (m : limit ≡ limitAsked item (l .limit) (l .track .maximum))
     (b : base ≡ max (l .base) asked)
-    (s : lineOf v ≡ line (lineOf (getD rows (item .start) []) .track) base limit (l .grows)) where
+    (s : lineOf v ≡ line (lineOf (getD rows (item .start) []) .track) base limit (l .growable)) where
   item-line : lineOf v ≡ withItem c item (lineOf (getD rows (item .start) []))
   item-line =
       s
-      ∙ ap (λ (k : Line). line (k .track) base limit (l .grows)) (sym o)
-      ∙ ap₂ (λ (n : ℕ) (k : Limit). line (l .track) n k (l .grows)) (b ∙ ap (max (l .base)) a) m
+      ∙ ap (λ (k : Line). line (k .track) base limit (l .growable)) (sym o)
+      ∙ ap₂ (λ (n : ℕ) (k : Limit). line (l .track) n k (l .growable)) (b ∙ ap (max (l .base)) a) m
       ∙ ap (withItem c item) o
 
   pub item-taken : item .start < length rows → LinesFit (linesOf rows) → MeasuredFits (length rows) item

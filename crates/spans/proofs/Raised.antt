@@ -20,8 +20,8 @@ use Rattle.letters.specs.Totals.{tallied}
 use Rattle.letters.proofs.Keeps.{length-increases, increases-fit-rows, raise-fits}
 use Rattle.letters.proofs.Shared.{zeros-as, zeros-of-lines}
 use native.Mathlib.Omega.{arith}
-use Rattle.lines.specs.Chains.{ChainFits}
-use Rattle.spans.specs.Work.{Working, letterAt, hasPlace, letterStep, letterSteps}
+use Rattle.lines.specs.Chains.{ChainFits, BatchesFit}
+use Rattle.spans.specs.Work.{Working, letterAt, letterRuns, letterStep, letterSteps}
 
 module _ (letter : Letter) (c : Constraint) (batch : List Measured) (rows : List Row) (start planned : List ℕ)
     (none : start ≡ replicate (length rows) 0) (told : planned ≡ inTurn (increasedBy (letterOf letter) c (linesOf rows)) batch start) where
@@ -57,12 +57,12 @@ module _ (letter : Letter) (c : Constraint) (batch : List Measured) (rows : List
 -- ---- the letters by number
 
 module _ (k : ℕ) (c : Constraint) (batch : List Measured) (ls : List Line) where
-  -- a letter without a place changes nothing
-  pub step-left : {b : Bool} → b ≡ hasPlace k c → b ≡ false → ls ≡ letterStep k c batch ls
+  -- a letter that is not run changes nothing
+  pub step-left : {b : Bool} → b ≡ letterRuns k c → b ≡ false → ls ≡ letterStep k c batch ls
   unfolding letterStep
   step-left e f = rw (sym e ∙ f) refl
 
-  pub step-taken : {b : Bool} {letter : Letter} (out : List Line) → b ≡ hasPlace k c → b ≡ true → letter ≡ letterAt k
+  pub step-taken : {b : Bool} {letter : Letter} (out : List Line) → b ≡ letterRuns k c → b ≡ true → letter ≡ letterAt k
       → out ≡ raise c batch (letterOf letter) ls → out ≡ letterStep k c batch ls
   unfolding letterStep
   step-taken out e f l r = rw (sym e ∙ f) (r ∙ ap (λ (m : Letter). raise c batch (letterOf m) ls) l)
@@ -108,3 +108,6 @@ working-after {lines} {lines′} w l g r f z t =
 
 pub chain-fits-as : {m n : ℕ} (items : List Row) (nexts : List ℕ) (first : ℕ) → m ≡ n → ChainFits n items nexts first → ChainFits m items nexts first
 chain-fits-as items nexts first e f = record { long = f .long; rising = f .rising; fit = rw e (f .fit) }
+
+pub batches-fit-as : {m n : ℕ} (items : List Row) (heads nexts : List ℕ) → m ≡ n → BatchesFit n items heads nexts → BatchesFit m items heads nexts
+batches-fit-as items heads nexts e f = rw e f

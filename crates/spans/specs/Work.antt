@@ -1,32 +1,48 @@
--- What the steps on spans ask of the working store, and one batch as the code goes about it. Assumes nothing.
+-- The working store of the steps on spans, what a letter's plan leaves in it, and one batch as the code goes about it. Assumes nothing.
 use mathlib.Core.Path.{_≡_}
-use Prim.Native.Nat.{ℕ, zero, suc, _≤_}
+use Prim.Native.Nat.{ℕ, zero, suc, _-_, _≤_}
 use mathlib.Core.Bool.{Bool, true, false, cond}
 use mathlib.Core.List.{List}
 use lib.Dec.{eqb}
-use lib.ListN.{length, replicate}
+use lib.ListN.{length}
 use Rattle.rounds.specs.Rule.{mostTracks}
 use Rattle.kinds.specs.Kinds.{Row}
 use Rattle.kinds.specs.declared.constraint.Constraint.{Constraint}
 use Rattle.kinds.specs.declared.constraint.Constraint.the-variants.{Definite, MinContent, MaxContent}
-use Rattle.laws.specs.Lists.{All}
+use Rattle.laws.specs.Lists.{All, upFrom, inTurn}
 use Rattle.lines.specs.declared.limit.Limit.{Limit}
 use Rattle.lines.specs.declared.limit.Limit.the-variants.{None, UpTo}
 use Rattle.lines.specs.declared.line.Line.{Line}
 use Rattle.lines.specs.declared.measured.Measured.{Measured}
-use Rattle.lines.specs.Rule.{raise}
+use Rattle.lines.specs.Rule.{increasedBy, raise, batched}
 use Rattle.lines.specs.Rows.{linesOf}
 use Rattle.lines.specs.Fits.{LinesFit}
+use Rattle.lines.specs.Chains.{batchAt}
 use Rattle.letters.specs.declared.letter.Letter.{Letter}
 use Rattle.letters.specs.declared.letter.Letter.the-variants.{A, B, C, D, E, F}
 use Rattle.letters.specs.Letters.{letterOf}
+use Rattle.letters.specs.Increases.{NoIncrease}
 use Rattle.letters.specs.Totals.{tallied}
 
--- the lines fit, no increase is planned, there is scratch beside each line, and the sums are the lines' totals
+-- while a letter is planned: the lines fit, beside each are an increase and scratch, and the sums are the lines' totals
+pub record Planning (lines : List Row) (increases gains rests : List ℕ) (sums : List Row) : Type 0 where
+  pub few : length lines ≤ mostTracks
+  pub fit : LinesFit (linesOf lines)
+  pub increases-long : length increases ≡ length lines
+  pub gains-long : length gains ≡ length lines
+  pub rests-long : length rests ≡ length lines
+  pub totals : sums ≡ tallied (linesOf lines)
+
+-- what a plan leaves: what the items of a batch give is laid over the increases, which are as before where no item gives anything
+pub record Planned (letter : Letter) (c : Constraint) (lines : List Row) (batch : List Measured) (before after : List ℕ) (given : Bool) : Type 0 where
+  pub laid : after ≡ inTurn (increasedBy (letterOf letter) c (linesOf lines)) batch before
+  pub nothing : given ≡ false → after ≡ before
+
+-- between letters: the same, and no increase is planned
 pub record Working (lines : List Row) (increases gains rests : List ℕ) (sums : List Row) : Type 0 where
   pub few : length lines ≤ mostTracks
   pub fit : LinesFit (linesOf lines)
-  pub none : increases ≡ replicate (length lines) 0
+  pub none : NoIncrease lines increases
   pub gains-long : length gains ≡ length lines
   pub rests-long : length rests ≡ length lines
   pub totals : sums ≡ tallied (linesOf lines)
@@ -38,7 +54,7 @@ above base None = Unit {0}
 above base (UpTo n) = base ≤ n
 
 abbrev pub AtRest : Line → Type 0
-AtRest l = above (l .base) (l .limit) × (l .grows ≡ false)
+AtRest l = above (l .base) (l .limit) × (l .growable ≡ false)
 
 abbrev pub Calm : List Line → Type 0
 Calm = All AtRest
@@ -58,14 +74,18 @@ isMaxContent (Definite n) = false
 isMaxContent MinContent = false
 isMaxContent MaxContent = true
 
--- (c) has a place under max-content only
-abbrev pub hasPlace : ℕ → Constraint → Bool
-hasPlace k c = cond (eqb k 2) (isMaxContent c) true
+-- (c) is run under max-content only
+abbrev pub letterRuns : ℕ → Constraint → Bool
+letterRuns k c = cond (eqb k 2) (isMaxContent c) true
 
 unfoldable pub letterStep : ℕ → Constraint → List Measured → List Line → List Line
-letterStep k c batch ls = cond (hasPlace k c) (raise c batch (letterOf (letterAt k)) ls) ls
+letterStep k c batch ls = cond (letterRuns k c) (raise c batch (letterOf (letterAt k)) ls) ls
 
 -- the first n letters, one after another
 unfoldable pub letterSteps : ℕ → Constraint → List Measured → List Line → List Line
 letterSteps zero c batch ls = ls
 letterSteps (suc n) c batch ls = letterStep n c batch (letterSteps n c batch ls)
+
+-- batch by batch in rising span, each from its head on
+abbrev pub longerLines : Constraint → List Row → (heads nexts : List ℕ) → List Row → List Line
+longerLines c items heads nexts lines = inTurn (λ (k : ℕ). batched c (batchAt items heads nexts k)) (upFrom 2 (length lines - 1)) (linesOf lines)

@@ -9,22 +9,18 @@ use letters::lay_over;
 use letters::share_extra;
 use letters::tally;
 use lines::Measured;
-use lines::Part;
-use lines::part_of;
+use spanned::lacks_contribution;
 ghost use mathlib.Core.Path.{_≡_};
 ghost use mathlib.Core.Bool.{false};
-ghost use Prim.Native.Nat.{ℕ, _-_, _≤_, _<_};
-ghost use lib.ListN.{length, getD, replicate};
-ghost use Rattle.laws.specs.Lists.{inTurn, upFrom};
-ghost use Rattle.rounds.specs.Rule.{mostTracks};
+ghost use mathlib.Core.List.{[], _∷_};
+ghost use lib.ListN.{length};
 ghost use Rattle.kinds.specs.Kinds.{itemOf};
-ghost use Rattle.lines.specs.Rule.{complete, increasedBy, raise, batched};
+ghost use Rattle.lines.specs.Rule.{complete, raise, batched};
 ghost use Rattle.lines.specs.Rows.{linesOf};
-ghost use Rattle.lines.specs.Fits.{LinesFit, MeasuredFits, MeasuredFit};
-ghost use Rattle.lines.specs.Chains.{chained, ChainFits, Whole};
+ghost use Rattle.lines.specs.Fits.{MeasuredFits, MeasuredFit};
+ghost use Rattle.lines.specs.Chains.{chained, ChainFits, Whole, BatchesFit};
 ghost use Rattle.letters.specs.Letters.{letterOf};
-ghost use Rattle.letters.specs.Totals.{tallied};
-ghost use Rattle.spans.specs.Work.{Working, Calm, letterAt, hasPlace, letterStep, letterSteps};
+ghost use Rattle.spans.specs.Work.{Planning, Planned, Working, Calm, letterAt, letterRuns, letterStep, letterSteps, longerLines};
 
 // What one item gives each line that it spans is laid over the increases. Gains and rests are scratch, the sums are the lines'
 // totals. Whether anything was laid over comes back: an item that asks nothing, or of no affected line, gives nothing.
@@ -38,8 +34,8 @@ fn plan_item(
     rests: &mut [u32],
     sums: &[[u64; 2]],
 ) -> bool
-    requires { ⌜ (length (now lines) ≤ mostTracks) × (length (now increases) ≡ length (now lines)) × (length (now gains) ≡ length (now lines)) × (length (now rests) ≡ length (now lines)) × LinesFit (linesOf (now lines)) × MeasuredFits (length (now lines)) item × (now sums ≡ tallied (linesOf (now lines))) ⌝ }
-    ensures { λ r. ⌜ (now (increases .exit) ≡ increasedBy (letterOf letter) constraint (linesOf (now (lines .entry))) item (now (increases .entry))) × (r ≡ false → now (increases .exit) ≡ now (increases .entry)) ⌝ }
+    requires { ⌜ Planning (now lines) (now increases) (now gains) (now rests) (now sums) × MeasuredFits (length (now lines)) item ⌝ }
+    ensures { λ r. ⌜ Planned letter constraint (now (lines .entry)) (item ∷ []) (now (increases .entry)) (now (increases .exit)) r ⌝ }
 {
     let a = item.start as usize;
     let n = item.span as usize;
@@ -58,6 +54,7 @@ fn plan_item(
     true
 }
 
+// The same for the item in a row; one that lacks a contribution takes no part.
 fn plan_part(
     letter: Letter,
     constraint: Constraint,
@@ -68,25 +65,24 @@ fn plan_part(
     rests: &mut [u32],
     sums: &[[u64; 2]],
 ) -> bool
-    requires { ⌜ (length (now lines) ≤ mostTracks) × (length (now increases) ≡ length (now lines)) × (length (now gains) ≡ length (now lines)) × (length (now rests) ≡ length (now lines)) × LinesFit (linesOf (now lines)) × MeasuredFit (length (now lines)) (complete (itemOf row)) × (now sums ≡ tallied (linesOf (now lines))) ⌝ }
-    ensures { λ r. ⌜ (now (increases .exit) ≡ inTurn (increasedBy (letterOf letter) constraint (linesOf (now (lines .entry)))) (complete (itemOf row)) (now (increases .entry))) × (r ≡ false → now (increases .exit) ≡ now (increases .entry)) ⌝ }
+    requires { ⌜ Planning (now lines) (now increases) (now gains) (now rests) (now sums)
+        × MeasuredFit (length (now lines)) (complete (itemOf row)) ⌝ }
+    ensures { λ r. ⌜ Planned letter constraint (now (lines .entry)) (complete (itemOf row)) (now (increases .entry)) (now (increases .exit)) r ⌝ }
 {
-    let part = part_of(Item::of_row(row));
-    match part {
-        Part::LeftOut => false,
-        Part::Takes(item) => {
-            plan_item(
-                letter,
-                constraint,
-                item,
-                lines,
-                increases,
-                gains,
-                rests,
-                sums,
-            )
-        }
+    let item = Item::of_row(row);
+    if lacks_contribution(item) {
+        return false;
     }
+    plan_item(
+        letter,
+        constraint,
+        Measured::of(item),
+        lines,
+        increases,
+        gains,
+        rests,
+        sums,
+    )
 }
 
 // The increases of a batch: each item in its turn looks at the lines as they were. Whether there are any comes back.
@@ -102,8 +98,9 @@ fn plan_batch(
     rests: &mut [u32],
     sums: &[[u64; 2]],
 ) -> bool
-    requires { ⌜ (length (now lines) ≤ mostTracks) × (length (now increases) ≡ length (now lines)) × (length (now gains) ≡ length (now lines)) × (length (now rests) ≡ length (now lines)) × LinesFit (linesOf (now lines)) × ChainFits (length (now lines)) (now items) (now nexts) first × (now sums ≡ tallied (linesOf (now lines))) ⌝ }
-    ensures { λ r. ⌜ (now (increases .exit) ≡ inTurn (increasedBy (letterOf letter) constraint (linesOf (now (lines .entry)))) (chained (now (items .entry)) (now (nexts .entry)) first) (now (increases .entry))) × (r ≡ false → now (increases .exit) ≡ now (increases .entry)) ⌝ }
+    requires { ⌜ Planning (now lines) (now increases) (now gains) (now rests) (now sums)
+        × ChainFits (length (now lines)) (now items) (now nexts) first ⌝ }
+    ensures { λ r. ⌜ Planned letter constraint (now (lines .entry)) (chained (now (items .entry)) (now (nexts .entry)) first) (now (increases .entry)) (now (increases .exit)) r ⌝ }
 {
     let mut planned = false;
     let mut i = first;
@@ -140,8 +137,12 @@ fn raise(
     rests: &mut [u32],
     sums: &mut [[u64; 2]],
 ) -> bool
-    requires { ⌜ Working (now lines) (now increases) (now gains) (now rests) (now sums) × ChainFits (length (now lines)) (now items) (now nexts) first × (moved ≡ false → Calm (linesOf (now lines))) ⌝ }
-    ensures { λ r. ⌜ (linesOf (now (lines .exit)) ≡ raise constraint (chained (now (items .entry)) (now (nexts .entry)) first) (letterOf letter) (linesOf (now (lines .entry)))) × LinesFit (linesOf (now (lines .exit))) × (now (increases .exit) ≡ replicate (length (now (lines .entry))) 0) × (now (sums .exit) ≡ tallied (linesOf (now (lines .exit)))) × (r ≡ false → Calm (linesOf (now (lines .exit)))) ⌝ }
+    requires { ⌜ Working (now lines) (now increases) (now gains) (now rests) (now sums)
+        × ChainFits (length (now lines)) (now items) (now nexts) first
+        × (moved ≡ false → Calm (linesOf (now lines))) ⌝ }
+    ensures { λ r. ⌜ (linesOf (now (lines .exit)) ≡ raise constraint (chained (now (items .entry)) (now (nexts .entry)) first) (letterOf letter) (linesOf (now (lines .entry))))
+        × Working (now (lines .exit)) (now (increases .exit)) (now (gains .exit)) (now (rests .exit)) (now (sums .exit))
+        × (r ≡ false → Calm (linesOf (now (lines .exit)))) ⌝ }
 {
     let planned = plan_batch(
         letter,
@@ -155,7 +156,7 @@ fn raise(
         rests,
         sums,
     );
-    let applies = planned | (moved & letter.settles());
+    let applies = planned | (moved & letter.changes_unraised());
     if !applies {
         return moved;
     }
@@ -185,9 +186,9 @@ fn letter_at(k: u32) -> Letter
     Letter::F
 }
 
-// (c) has a place under max-content only.
-fn has_place(k: u32, constraint: Constraint) -> bool
-    ensures { λ r. ⌜ r ≡ hasPlace k constraint ⌝ }
+// (c) is run under max-content only.
+fn letter_runs(k: u32, constraint: Constraint) -> bool
+    ensures { λ r. ⌜ r ≡ letterRuns k constraint ⌝ }
 {
     if k == 2 {
         return match constraint {
@@ -213,10 +214,14 @@ fn raise_at(
     rests: &mut [u32],
     sums: &mut [[u64; 2]],
 ) -> bool
-    requires { ⌜ Working (now lines) (now increases) (now gains) (now rests) (now sums) × ChainFits (length (now lines)) (now items) (now nexts) first × (moved ≡ false → Calm (linesOf (now lines))) ⌝ }
-    ensures { λ r. ⌜ (linesOf (now (lines .exit)) ≡ letterStep k constraint (chained (now (items .entry)) (now (nexts .entry)) first) (linesOf (now (lines .entry)))) × LinesFit (linesOf (now (lines .exit))) × (now (increases .exit) ≡ replicate (length (now (lines .entry))) 0) × (now (sums .exit) ≡ tallied (linesOf (now (lines .exit)))) × (r ≡ false → Calm (linesOf (now (lines .exit)))) ⌝ }
+    requires { ⌜ Working (now lines) (now increases) (now gains) (now rests) (now sums)
+        × ChainFits (length (now lines)) (now items) (now nexts) first
+        × (moved ≡ false → Calm (linesOf (now lines))) ⌝ }
+    ensures { λ r. ⌜ (linesOf (now (lines .exit)) ≡ letterStep k constraint (chained (now (items .entry)) (now (nexts .entry)) first) (linesOf (now (lines .entry))))
+        × Working (now (lines .exit)) (now (increases .exit)) (now (gains .exit)) (now (rests .exit)) (now (sums .exit))
+        × (r ≡ false → Calm (linesOf (now (lines .exit)))) ⌝ }
 {
-    if !has_place(k, constraint) {
+    if !letter_runs(k, constraint) {
         return moved;
     }
     raise(
@@ -246,8 +251,13 @@ pub fn batched(
     rests: &mut [u32],
     sums: &mut [[u64; 2]],
 )
-    requires { ⌜ Working (now lines) (now increases) (now gains) (now rests) (now sums) × ChainFits (length (now lines)) (now items) (now nexts) first × Whole (now items) (now nexts) first × Calm (linesOf (now lines)) ⌝ }
-    ensures { λ _. ⌜ (linesOf (now (lines .exit)) ≡ batched constraint (chained (now (items .entry)) (now (nexts .entry)) first) (linesOf (now (lines .entry)))) × LinesFit (linesOf (now (lines .exit))) × (now (increases .exit) ≡ replicate (length (now (lines .entry))) 0) × (now (sums .exit) ≡ tallied (linesOf (now (lines .exit)))) × Calm (linesOf (now (lines .exit))) ⌝ }
+    requires { ⌜ Working (now lines) (now increases) (now gains) (now rests) (now sums)
+        × ChainFits (length (now lines)) (now items) (now nexts) first
+        × Whole (now items) (now nexts) first
+        × Calm (linesOf (now lines)) ⌝ }
+    ensures { λ _. ⌜ (linesOf (now (lines .exit)) ≡ batched constraint (chained (now (items .entry)) (now (nexts .entry)) first) (linesOf (now (lines .entry))))
+        × Working (now (lines .exit)) (now (increases .exit)) (now (gains .exit)) (now (rests .exit)) (now (sums .exit))
+        × Calm (linesOf (now (lines .exit))) ⌝ }
 {
     if first >= items.len() {
         return;
@@ -276,8 +286,11 @@ fn raise_all(
     rests: &mut [u32],
     sums: &mut [[u64; 2]],
 )
-    requires { ⌜ Working (now lines) (now increases) (now gains) (now rests) (now sums) × ChainFits (length (now lines)) (now items) (now nexts) first × Calm (linesOf (now lines)) ⌝ }
-    ensures { λ _. ⌜ (linesOf (now (lines .exit)) ≡ letterSteps 6 constraint (chained (now (items .entry)) (now (nexts .entry)) first) (linesOf (now (lines .entry)))) × LinesFit (linesOf (now (lines .exit))) × (now (increases .exit) ≡ replicate (length (now (lines .entry))) 0) × (now (sums .exit) ≡ tallied (linesOf (now (lines .exit)))) ⌝ }
+    requires { ⌜ Working (now lines) (now increases) (now gains) (now rests) (now sums)
+        × ChainFits (length (now lines)) (now items) (now nexts) first
+        × Calm (linesOf (now lines)) ⌝ }
+    ensures { λ _. ⌜ (linesOf (now (lines .exit)) ≡ letterSteps 6 constraint (chained (now (items .entry)) (now (nexts .entry)) first) (linesOf (now (lines .entry))))
+        × Working (now (lines .exit)) (now (increases .exit)) (now (gains .exit)) (now (rests .exit)) (now (sums .exit)) ⌝ }
 {
     let mut moved = false;
     let mut k: u32 = 0;
@@ -313,8 +326,12 @@ pub fn longer(
     rests: &mut [u32],
     sums: &mut [[u64; 2]],
 )
-    requires { ⌜ Working (now lines) (now increases) (now gains) (now rests) (now sums) × (length (now lines) < length (now heads)) × ((k : ℕ) → 0 < k → k ≤ length (now lines) → ChainFits (length (now lines)) (now items) (now nexts) (getD (now heads) k 0) × Whole (now items) (now nexts) (getD (now heads) k 0)) × Calm (linesOf (now lines)) ⌝ }
-    ensures { λ _. ⌜ (linesOf (now (lines .exit)) ≡ inTurn (λ (k : ℕ). batched constraint (chained (now (items .entry)) (now (nexts .entry)) (getD (now (heads .entry)) k 0))) (upFrom 2 (length (now (lines .entry)) - 1)) (linesOf (now (lines .entry)))) × LinesFit (linesOf (now (lines .exit))) × (now (increases .exit) ≡ replicate (length (now (lines .entry))) 0) × (now (sums .exit) ≡ tallied (linesOf (now (lines .exit)))) × Calm (linesOf (now (lines .exit))) ⌝ }
+    requires { ⌜ Working (now lines) (now increases) (now gains) (now rests) (now sums)
+        × BatchesFit (length (now lines)) (now items) (now heads) (now nexts)
+        × Calm (linesOf (now lines)) ⌝ }
+    ensures { λ _. ⌜ (linesOf (now (lines .exit)) ≡ longerLines constraint (now (items .entry)) (now (heads .entry)) (now (nexts .entry)) (now (lines .entry)))
+        × Working (now (lines .exit)) (now (increases .exit)) (now (gains .exit)) (now (rests .exit)) (now (sums .exit))
+        × Calm (linesOf (now (lines .exit))) ⌝ }
 {
     let mut k = 2;
     while k <= lines.len() {

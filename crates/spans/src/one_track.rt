@@ -1,5 +1,6 @@
 // Step 2: items in one track. Base and limit become the largest that an item asks, by the track's kinds.
 use kinds::Constraint;
+use kinds::ContributionKind;
 use kinds::Item;
 use kinds::Maximum;
 use kinds::Minimum;
@@ -7,13 +8,12 @@ use letters::for_auto;
 use lines::Limit;
 use lines::Line;
 use lines::Measured;
-use lines::Part;
 use lines::Pass;
-use lines::larger;
-use lines::part_of;
 use lines::pass_over;
-use lines::smaller;
 use lines::with_sizes;
+use rounds::larger;
+use rounds::smaller;
+use spanned::lacks_contribution;
 ghost use mathlib.Core.Path.{_≡_};
 ghost use mathlib.Core.List.{[], _∷_};
 ghost use Prim.Native.Nat.{_≤_};
@@ -36,8 +36,8 @@ fn base_asked(constraint: Constraint, item: Measured, line: Line, own: &[[u32; 8
     match minimum {
         Minimum::Fixed(_) => 0,
         Minimum::Auto => for_auto(constraint, item, own),
-        Minimum::MinContent => item.min_content,
-        Minimum::MaxContent => item.max_content,
+        Minimum::MinContent => item.at(ContributionKind::MinContent),
+        Minimum::MaxContent => item.at(ContributionKind::MaxContent),
     }
 }
 
@@ -50,35 +50,37 @@ fn limit_asked(item: Measured, line: Line) -> Limit
     let limit = line.limit;
     match maximum {
         Maximum::Fixed(_) => limit,
-        Maximum::Auto => limit.with(item.max_content),
-        Maximum::MinContent => limit.with(item.min_content),
-        Maximum::MaxContent => limit.with(item.max_content),
-        Maximum::FitContent(n) => limit.with(smaller(n, item.max_content)),
+        Maximum::Auto => limit.with(item.at(ContributionKind::MaxContent)),
+        Maximum::MinContent => limit.with(item.at(ContributionKind::MinContent)),
+        Maximum::MaxContent => limit.with(item.at(ContributionKind::MaxContent)),
+        Maximum::FitContent(n) => limit.with(smaller(n, item.at(ContributionKind::MaxContent))),
         Maximum::Fr(_) => limit,
     }
 }
 
 fn with_item(constraint: Constraint, item: Measured, lines: &mut [[u32; 8]])
     requires { ⌜ LinesFit (linesOf (now lines)) × MeasuredFits (length (now lines)) item ⌝ }
-    ensures { λ _. ⌜ (linesOf (now (lines .exit)) ≡ withItemAt constraint item (linesOf (now (lines .entry)))) × LinesFit (linesOf (now (lines .exit))) ⌝ }
+    ensures { λ _. ⌜ (linesOf (now (lines .exit)) ≡ withItemAt constraint item (linesOf (now (lines .entry))))
+        × LinesFit (linesOf (now (lines .exit))) ⌝ }
 {
     let t = item.start as usize;
     let row = lines[t];
     let line = Line::of_row(row);
     let asked = base_asked(constraint, item, line, &lines[t..t + 1]);
     let limit = limit_asked(item, line);
-    lines[t] = with_sizes(row, larger(line.base, asked), limit, line.grows);
+    lines[t] = with_sizes(row, larger(line.base, asked), limit, line.growable);
 }
 
 fn with_part(constraint: Constraint, row: [u32; 7], lines: &mut [[u32; 8]])
     requires { ⌜ LinesFit (linesOf (now lines)) × MeasuredFit (length (now lines)) (complete (itemOf row)) ⌝ }
-    ensures { λ _. ⌜ (linesOf (now (lines .exit)) ≡ inTurn (withItemAt constraint) (complete (itemOf row)) (linesOf (now (lines .entry)))) × LinesFit (linesOf (now (lines .exit))) ⌝ }
+    ensures { λ _. ⌜ (linesOf (now (lines .exit)) ≡ inTurn (withItemAt constraint) (complete (itemOf row)) (linesOf (now (lines .entry))))
+        × LinesFit (linesOf (now (lines .exit))) ⌝ }
 {
-    let part = part_of(Item::of_row(row));
-    match part {
-        Part::LeftOut => {}
-        Part::Takes(item) => with_item(constraint, item, lines),
+    let item = Item::of_row(row);
+    if lacks_contribution(item) {
+        return;
     }
+    with_item(constraint, Measured::of(item), lines);
 }
 
 pub fn singles(
@@ -89,7 +91,8 @@ pub fn singles(
     lines: &mut [[u32; 8]],
 )
     requires { ⌜ LinesFit (linesOf (now lines)) × ChainFits (length (now lines)) (now items) (now nexts) first ⌝ }
-    ensures { λ _. ⌜ (linesOf (now (lines .exit)) ≡ singles constraint (chained (now (items .entry)) (now (nexts .entry)) first) (linesOf (now (lines .entry)))) × LinesFit (linesOf (now (lines .exit))) ⌝ }
+    ensures { λ _. ⌜ (linesOf (now (lines .exit)) ≡ singles constraint (chained (now (items .entry)) (now (nexts .entry)) first) (linesOf (now (lines .entry))))
+        × LinesFit (linesOf (now (lines .exit))) ⌝ }
 {
     take_singles(constraint, first, nexts, items, lines);
     pass_over(Pass::Settle, lines);
@@ -103,7 +106,8 @@ fn take_singles(
     lines: &mut [[u32; 8]],
 )
     requires { ⌜ LinesFit (linesOf (now lines)) × ChainFits (length (now lines)) (now items) (now nexts) first ⌝ }
-    ensures { λ _. ⌜ (linesOf (now (lines .exit)) ≡ inTurn (withItemAt constraint) (chained (now (items .entry)) (now (nexts .entry)) first) (linesOf (now (lines .entry)))) × LinesFit (linesOf (now (lines .exit))) ⌝ }
+    ensures { λ _. ⌜ (linesOf (now (lines .exit)) ≡ inTurn (withItemAt constraint) (chained (now (items .entry)) (now (nexts .entry)) first) (linesOf (now (lines .entry))))
+        × LinesFit (linesOf (now (lines .exit))) ⌝ }
 {
     let mut i = first;
     while i < items.len() {

@@ -26,13 +26,13 @@ use Rattle.torrivask.specs.Sheets.{readLeft, readFace, rowSheet, writeLe
 -- ---- reading
 
 module _ (answer : ReadAnswer) (tracks items : List Row) (call : ReadOutcome) (is : readLeaves answer tracks items ≡ call)
-    (space : Row) (columns fares place : ℕ) where
+    (space : Row) (trackCount itemCount place : ℕ) where
   pub read-writes : (asked : Space) (n m : ℕ) (row : Row) → answer ≡ ofRead.Sheet asked n m → row ≡ spaceRow asked
-      → readLeft 0 row tracks items n m place ≡ readFace call space columns fares place
+      → readLeft 0 row tracks items n m place ≡ readFace call space trackCount itemCount place
   read-writes asked n m row gives row-is = rw (← is, gives, row-is) refl
 
   pub read-refused : (refusal : Refusal) (n p : ℕ) → answer ≡ ofRead.Refused refusal → n ≡ numberOf refusal → p ≡ placeOf refusal
-      → readLeft n space tracks items columns fares p ≡ readFace call space columns fares place
+      → readLeft n space tracks items trackCount itemCount p ≡ readFace call space trackCount itemCount place
   read-refused refusal n p refuses number at = rw (← is, refuses, number, at) refl
 
 -- ---- writing

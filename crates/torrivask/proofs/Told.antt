@@ -4,13 +4,13 @@ use mathlib.Core.Path.{_≡_, refl}
 use mathlib.Core.Bool.{Bool}
 use mathlib.Core.List.{List}
 use lib.Ieee.{Float}
-use Rattle.domain.specs.declared.refusal.Refusal.{Refusal}
-use Rattle.domain.specs.Answer.{numberOf, placeOf}
+use Rattle.float_domain.specs.declared.refusal.Refusal.{Refusal}
+use Rattle.float_domain.specs.Answer.{numberOf, placeOf}
 use Rattle.float_track.specs.declared.track.Track.{Track}
 use Rattle.float_track.specs.declared.space.AvailableSpace.{AvailableSpace}
 use Rattle.float_track.specs.declared.space.OptionalSize.{OptionalSize}
 use Rattle.float_track.specs.Track.{rowOf}
-use Rattle.gutters.specs.declared.AlignContent.{AlignContent}
+use Rattle.float_gutters.specs.declared.AlignContent.{AlignContent}
 use Rattle.floats.specs.Rule.{Told, Outcome, outcome, gutterCall, maximiseCall, stretchCall}
 use Rattle.floats.specs.Answer.{numberTold, tracksTold, flushTold}
 use Rattle.floats.specs.declared.answer.NumberAnswer.{NumberAnswer}

@@ -9,7 +9,7 @@ use Rattle.board.specs.Rule.{BoardTold, board, refused, BoardOutcome}
 
 pub record BoardLeft : Type 0 where
   pub code : ℕ
-  pub places : List Row
+  pub sizes : List Row
   pub tracks : ℕ
   pub definite : Bool
   pub free : ℤ
@@ -17,15 +17,15 @@ pub record BoardLeft : Type 0 where
   pub place : ℕ
 
 abbrev pub boardLeft : ℕ → List Row → ℕ → Bool → ℤ → ℕ → ℕ → BoardLeft
-boardLeft code places tracks definite free rounds place =
-    record { code = code; places = places; tracks = tracks; definite = definite; free = free; rounds = rounds; place = place }
+boardLeft code sizes tracks definite free rounds place =
+    record { code = code; sizes = sizes; tracks = tracks; definite = definite; free = free; rounds = rounds; place = place }
 
 -- Only a refusal writes the place. A board writes all else, but a free space only where there is one.
 abbrev pub boardWrites : BoardTold → List Row → (tracks : ℕ) → (definite : Bool) → (free : ℤ) → (rounds place : ℕ) → BoardLeft
-boardWrites (board n (dots d) passes) places tracks definite free rounds place = boardLeft 0 places n true d passes place
-boardWrites (board n none passes) places tracks definite free rounds place = boardLeft 0 places n false free passes place
-boardWrites (refused number at) places tracks definite free rounds place = boardLeft number places tracks definite free rounds at
+boardWrites (board n (dots d) passes) sizes tracks definite free rounds place = boardLeft 0 sizes n true d passes place
+boardWrites (board n none passes) sizes tracks definite free rounds place = boardLeft 0 sizes n false free passes place
+boardWrites (refused number at) sizes tracks definite free rounds place = boardLeft number sizes tracks definite free rounds at
 
 -- what the call left, over what stood there before
 abbrev pub boardFace : BoardOutcome → (tracks : ℕ) → (definite : Bool) → (free : ℤ) → (rounds place : ℕ) → BoardLeft
-boardFace outcome = boardWrites (outcome .told) (outcome .places)
+boardFace outcome = boardWrites (outcome .told) (outcome .sizes)

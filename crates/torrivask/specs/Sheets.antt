@@ -12,21 +12,21 @@ pub record ReadLeft : Type 0 where
   pub space : Row
   pub tracks : List Row
   pub items : List Row
-  pub columns : ℕ
-  pub fares : ℕ
+  pub trackCount : ℕ
+  pub itemCount : ℕ
   pub place : ℕ
 
 abbrev pub readLeft : ℕ → Row → List Row → List Row → ℕ → ℕ → ℕ → ReadLeft
-readLeft code space tracks items columns fares place =
-    record { code = code; space = space; tracks = tracks; items = items; columns = columns; fares = fares; place = place }
+readLeft code space tracks items trackCount itemCount place =
+    record { code = code; space = space; tracks = tracks; items = items; trackCount = trackCount; itemCount = itemCount; place = place }
 
 -- Only a refusal writes the place, and nothing else.
-abbrev pub readWrites : ReadTold → List Row → List Row → (space : Row) → (columns fares place : ℕ) → ReadLeft
-readWrites (sheetRead row n m) tracks items space columns fares place = readLeft 0 row tracks items n m place
-readWrites (readRefused number at) tracks items space columns fares place = readLeft number space tracks items columns fares at
+abbrev pub readWrites : ReadTold → List Row → List Row → (space : Row) → (trackCount itemCount place : ℕ) → ReadLeft
+readWrites (sheetRead row n m) tracks items space trackCount itemCount place = readLeft 0 row tracks items n m place
+readWrites (readRefused number at) tracks items space trackCount itemCount place = readLeft number space tracks items trackCount itemCount at
 
 -- what the call left, over what stood there before
-abbrev pub readFace : ReadOutcome → (space : Row) → (columns fares place : ℕ) → ReadLeft
+abbrev pub readFace : ReadOutcome → (space : Row) → (trackCount itemCount place : ℕ) → ReadLeft
 readFace outcome = readWrites (outcome .told) (outcome .tracks) (outcome .items)
 
 -- ---- `torrivask_write_sheet`

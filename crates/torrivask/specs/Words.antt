@@ -6,7 +6,7 @@ use lib.Ieee.{Float}
 use Rattle.float_track.specs.declared.space.AvailableSpace.the-variants.{Definite, MinContent, MaxContent}
 use Rattle.float_track.specs.declared.space.OptionalSize.{OptionalSize}
 use Rattle.float_track.specs.declared.space.OptionalSize.the-variants.{Given, Absent}
-use Rattle.gutters.specs.declared.AlignContent.the-variants.{Normal, Start, End, FlexStart, FlexEnd, Center, Stretch, SpaceBetween, SpaceEvenly, SpaceAround}
+use Rattle.float_gutters.specs.declared.AlignContent.the-variants.{Normal, Start, End, FlexStart, FlexEnd, Center, Stretch, SpaceBetween, SpaceEvenly, SpaceAround}
 use Rattle.torrivask.specs.declared.words.SpaceWord.{SpaceWord}
 use Rattle.torrivask.specs.declared.words.SpaceWord.the-variants as space
 use Rattle.torrivask.specs.declared.words.AlignmentWord.{AlignmentWord}

@@ -8,16 +8,16 @@ ghost use Rattle.torrivask.specs.Board.{boardLeft, boardFace};
 #[no_mangle]
 pub extern "C" fn torrivask_board(
     sheet: &[u8],
-    places: &mut [[u32; 2]],
+    sizes: &mut [[u32; 2]],
     tracks: &mut u32,
     definite: &mut bool,
     free: &mut i32,
     rounds: &mut u32,
     place: &mut u64,
 ) -> u32
-    ensures { λ r. ⌜ boardLeft r (now (places .exit)) (now (tracks .exit)) (now (definite .exit)) (now (free .exit)) (now (rounds .exit)) (now (place .exit)) ≡ boardFace (boardCall (now (sheet .entry)) (now (places .entry))) (now (tracks .entry)) (now (definite .entry)) (now (free .entry)) (now (rounds .entry)) (now (place .entry)) ⌝ }
+    ensures { λ r. ⌜ boardLeft r (now (sizes .exit)) (now (tracks .exit)) (now (definite .exit)) (now (free .exit)) (now (rounds .exit)) (now (place .exit)) ≡ boardFace (boardCall (now (sheet .entry)) (now (sizes .entry))) (now (tracks .entry)) (now (definite .entry)) (now (free .entry)) (now (rounds .entry)) (now (place .entry)) ⌝ }
 {
-    let answer = board::board(sheet, places);
+    let answer = board::board(sheet, sizes);
     match answer {
         BoardAnswer::Board {
             tracks: count,

@@ -15,22 +15,22 @@ pub extern "C" fn torrivask_read_sheet(
     space: &mut [u32; 5],
     tracks: &mut [[u32; 4]],
     items: &mut [[u32; 7]],
-    columns: &mut u32,
-    fares: &mut u32,
+    track_count: &mut u32,
+    item_count: &mut u32,
     place: &mut u64,
 ) -> u32
-    ensures { λ r. ⌜ readLeft r (now (space .exit)) (now (tracks .exit)) (now (items .exit)) (now (columns .exit)) (now (fares .exit)) (now (place .exit)) ≡ readFace (readCall (now (sheet .entry)) (now (tracks .entry)) (now (items .entry))) (now (space .entry)) (now (columns .entry)) (now (fares .entry)) (now (place .entry)) ⌝ }
+    ensures { λ r. ⌜ readLeft r (now (space .exit)) (now (tracks .exit)) (now (items .exit)) (now («track_count» .exit)) (now («item_count» .exit)) (now (place .exit)) ≡ readFace (readCall (now (sheet .entry)) (now (tracks .entry)) (now (items .entry))) (now (space .entry)) (now («track_count» .entry)) (now («item_count» .entry)) (now (place .entry)) ⌝ }
 {
     let answer = sheet::read(sheet, tracks, items);
     match answer {
         ReadAnswer::Sheet {
             space: asked,
-            tracks: track_count,
-            items: item_count,
+            tracks: n,
+            items: m,
         } => {
             *space = asked.row();
-            *columns = track_count as u32;
-            *fares = item_count as u32;
+            *track_count = n as u32;
+            *item_count = m as u32;
             0
         }
         ReadAnswer::Refused(refusal) => {

@@ -1,12 +1,14 @@
--- `board` takes the small store where the bytes are few. Assumes nothing.
+-- `board` takes the small store where the sheet says few. Assumes nothing.
 use borrow.Author.Needs.{needs}
-use Rattle.sheet.specs.Rule.{recordSize}
+use mathlib.Core.Path.{sym, _∙_}
 use Rattle.board.proofs.board.Statement.{statement}
 use Rattle.board.proofs.board.Tie as tie
 
+says-few-requires : tie.Need-says-few-requires
+says-few-requires c κs = search needs
+
 board-small-requires : tie.Need-board-small-requires
-unfolding recordSize
-board-small-requires c κs = search needs
+board-small-requires c κs = sym (c .before .before .says-few .ensures) ∙ c .before .if1 .taken
 
 same-length : tie.Need-same-length
 same-length c = search needs
@@ -27,6 +29,7 @@ pub board-spec : {M : Type 1} → statement M
 board-spec =
     tie.close
     (tie.spec
+    says-few-requires
     board-small-requires
     same-length
     returns

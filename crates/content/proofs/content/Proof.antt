@@ -1,43 +1,53 @@
 -- `content` prepares the lines and spreads the longer spans. Assumes nothing.
 use borrow.Author.Needs.{needs}
-use Rattle.content.proofs.content.Statement.{statement}
-use mathlib.Core.Path.{_≡_, refl, sym, _∙_, subst}
+use mathlib.Core.Path.{_≡_, sym, _∙_, subst}
 use mathlib.Core.List.{map}
 use Prim.Native.Nat.{_≤_}
 use native.Mathlib.Omega.{arith}
 use lib.ListN.{length, length-map}
+use Rattle.rounds.specs.Rule.{mostTracks}
 use Rattle.kinds.specs.Kinds.{trackOf, itemOf}
 use Rattle.letters.proofs.Shared.{zeros-as}
-use Rattle.chains.proofs.Batches.{gathered-fits, gathered-whole}
+use Rattle.chains.proofs.Batches.{gathered-batches}
 use Rattle.spans.specs.Work.{Calm}
 use Rattle.spans.proofs.Calm.{singles-calm}
-use Rattle.spans.proofs.Raised.{chain-fits-as}
+use Rattle.spans.proofs.Raised.{batches-fit-as}
 use Rattle.content.proofs.Contents.{items-fit-as, content-made}
+use Rattle.content.proofs.content.Statement.{statement}
 use Rattle.content.proofs.content.Tie as tie
 
 prepare-requires : tie.Need-prepare-requires
-prepare-requires c κs = search needs
+prepare-requires c κs =
+    let s = c .before .before .before .before .before .before .before .before .before in
+    let a = s .args in
+    let z = s .pre .2 in
+    let sound = s .pre .1 in
+    let back = sym (length-map (a .tracks .now) trackOf) in
+    (record { few = s .pre .0; heads-long = z .heads-long; nexts-long = z .nexts-long; items-fit = items-fit-as (map itemOf (a .items .now)) back (sound .items) }, sound .tracks, z .lines-long, z .sums-long)
 
 spread-requires : tie.Need-spread-requires
 spread-requires c κs =
-    let s = c .before .before .before .before .before .before .before .before .before .before .before .before .before .before .before .before .before .before .before .before in
+    let s = c .before .before .before .before .before .before .before .before .before .before .before .before .before .before .before .before .before .before .before .before .before .before .before in
     let a = s .args in
+    let z = s .pre .2 in
     let ts = map trackOf (a .tracks .now) in
     let long = length-map (a .tracks .now) trackOf in
     let back = sym long in
-    let few : length ts ≤ 256 = omega (arith, s .pre .0) in
-    let p = c .before .before .before .before .before .before .before .before .before .before .before .prepare .ensures in
-    let items = items-fit-as (map itemOf (a .items .now)) long (s .pre .5) in
-    let ls = c .before .before .before .before .before .before .before .before .before .before .before .prepare .last .1 .1 .1 .1 .1 .0 in
-    let kept = c .before .before .before .before .before .before .lines .given in
-    let held = c .before .before .before .before .before .before .before .before .before .before .heads .given in
+    let few : length ts ≤ mostTracks = omega (arith, s .pre .0) in
+    let p = c .before .before .before .before .before .before .before .before .before .before .before .before .before .prepare .ensures in
+    let ls = c .before .before .before .before .before .before .before .before .before .before .before .before .before .prepare .last .1 .1 .1 .1 .1 .0 in
+    let kept = c .before .before .before .before .before .before .before .before .lines .given in
+    let held = c .before .before .before .before .before .before .before .before .before .before .before .before .heads .given in
     let same : length ls ≡ length (a .tracks .now) = search needs in (
-      record { few = omega (arith, s .pre .0); fit = p .1; none = zeros-as {m = length (a .tracks .now)} {n = length ls} (s .pre .6) (sym same); gains-long = s .pre .7 ∙ sym same; rests-long = s .pre .8 ∙ sym same; totals = refl },
-      search needs,
-      λ k low high. (
-        chain-fits-as (a .items .now) _ _ (same ∙ back) (gathered-fits ts (a .items .now) _ _ few items (search needs) (p .2) k low high),
-        gathered-whole ts (a .items .now) _ _ few items (search needs) (p .2) k low high,
-      ),
+      record {
+        few = omega (arith, s .pre .0);
+        fit = p .1;
+        none = zeros-as {m = length (a .tracks .now)} {n = length ls} (z .none) (sym same);
+        gains-long = z .gains-long ∙ sym same;
+        rests-long = z .rests-long ∙ sym same;
+        totals = p .3;
+      },
+      batches-fit-as (a .items .now) _ _ (same ∙ back) (gathered-batches ts (a .items .now) _ _ few (s .pre .1 .items) (search needs) (p .2)),
       subst Calm (sym (p .0)) (singles-calm (a .constraint) _ ts),
     )
 
@@ -59,23 +69,26 @@ same-length-5 c = search needs
 same-length-6 : tie.Need-same-length-6
 same-length-6 c = search needs
 
+same-length-7 : tie.Need-same-length-7
+same-length-7 c = search needs
+
 returns : tie.Need-returns
 returns c =
-    let s = c .before .before .before .before .before .before .before .before .before .before .before .before .before .before .before .before .before .before .before .before .before .before .before .before .before .before .before .before in
+    let s = c .before .before .before .before .before .before .before .before .before .before .before .before .before .before .before .before .before .before .before .before .before .before .before .before .before .before .before .before .before .before .before .before in
     let a = s .args in
+    let z = s .pre .2 in
     let ts = map trackOf (a .tracks .now) in
     let long = length-map (a .tracks .now) trackOf in
     let back = sym long in
-    let few : length ts ≤ 256 = omega (arith, s .pre .0) in
-    let p = c .before .before .before .before .before .before .before .before .before .before .before .before .before .before .before .before .before .before .before .prepare .ensures in
-    let e = c .before .before .before .before .before .before .before .spread .ensures in
-    let items = items-fit-as (map itemOf (a .items .now)) long (s .pre .5) in
-    let ls = c .before .before .before .before .before .before .before .before .before .before .before .before .before .before .before .before .before .before .before .prepare .last .1 .1 .1 .1 .1 .0 in
-    let kept = c .before .before .before .before .before .before .before .before .before .before .before .before .before .before .lines .given in
-    let held = c .before .before .before .before .before .before .before .before .before .before .before .before .before .before .before .before .before .before .heads .given in
+    let few : length ts ≤ mostTracks = omega (arith, s .pre .0) in
+    let p = c .before .before .before .before .before .before .before .before .before .before .before .before .before .before .before .before .before .before .before .before .before .before .prepare .ensures in
+    let ls = c .before .before .before .before .before .before .before .before .before .before .before .before .before .before .before .before .before .before .before .before .before .before .prepare .last .1 .1 .1 .1 .1 .0 in
+    let kept = c .before .before .before .before .before .before .before .before .before .before .before .before .before .before .before .before .before .lines .given in
+    let held = c .before .before .before .before .before .before .before .before .before .before .before .before .before .before .before .before .before .before .before .before .before .heads .given in
     let same : length ls ≡ length (a .tracks .now) = search needs in
+    let e = c .before .before .before .before .before .before .before .before .spread .ensures in
     let entry : length ls ≡ length (a .lines .now) = search needs in
-    (content-made (a .constraint) ts (a .items .now) _ _ few items (search needs) (p .2) (length ls) _ _ (same ∙ back) (p .0) (e .0), e .1, p .2, zeros-as {m = length ls} {n = length (a .lines .now)} (e .2) entry)
+    (content-made (a .constraint) ts (a .items .now) _ _ few (s .pre .1 .items) (search needs) (p .2) (length ls) _ _ (same ∙ back) (p .0) (e .0), e .1, p .2, zeros-as {m = length ls} {n = length (a .lines .now)} (e .2) entry)
 
 pub content-spec : {M : Type 1} → statement M
 content-spec =
@@ -89,4 +102,5 @@ content-spec =
     same-length-4
     same-length-5
     same-length-6
+    same-length-7
     returns)

@@ -1,17 +1,18 @@
--- `prepare` starts the lines, gathers the batches and takes the items in one track. Assumes nothing.
+-- `prepare` starts the lines, gathers the batches, takes the items in one track and makes the totals. Assumes nothing.
 use borrow.Author.Needs.{needs}
-use Rattle.content.proofs.prepare.Statement.{statement}
 use mathlib.Core.Path.{sym, subst}
 use mathlib.Core.List.{map}
 use Prim.Native.Nat.{_≤_}
 use native.Mathlib.Omega.{arith}
 use lib.ListN.{length, length-map}
+use Rattle.rounds.specs.Rule.{mostTracks}
 use Rattle.kinds.specs.Kinds.{trackOf, itemOf}
 use Rattle.lines.specs.Fits.{LinesFit}
 use Rattle.lines.proofs.Fits.{start-fits}
-use Rattle.chains.proofs.Batches.{gathered-fits}
+use Rattle.chains.proofs.Batches.{gathered-batches}
 use Rattle.spans.proofs.Raised.{chain-fits-as}
 use Rattle.content.proofs.Contents.{items-fit-as, prepared}
+use Rattle.content.proofs.prepare.Statement.{statement}
 use Rattle.content.proofs.prepare.Tie as tie
 
 start-requires : tie.Need-start-requires
@@ -29,10 +30,16 @@ singles-requires c κs =
     let a = s .args in
     let ts = map trackOf (a .tracks .now) in
     let long = length-map (a .tracks .now) trackOf in
-    let few : length ts ≤ 256 = omega (arith, s .pre .0) in
+    let few : length ts ≤ mostTracks = omega (arith, s .pre .0 .few) in
     let back = sym long in
-    let f = gathered-fits ts (a .items .now) _ _ few (items-fit-as (map itemOf (a .items .now)) long (s .pre .5)) (search needs) (c .before .before .before .before .before .before .before .gather .ensures) 1 (omega arith) (omega arith) in
-    (subst LinesFit (sym (c .before .before .before .before .before .before .before .before .before .before .before .start .ensures)) (start-fits ts (s .pre .4)), chain-fits-as (a .items .now) _ _ (search needs) f)
+    let all = gathered-batches ts (a .items .now) _ _ few (items-fit-as (map itemOf (a .items .now)) long (s .pre .0 .items-fit)) (search needs) (c .before .before .before .before .before .before .before .gather .ensures) in
+    (subst LinesFit (sym (c .before .before .before .before .before .before .before .before .before .before .before .start .ensures)) (start-fits ts (s .pre .1)), chain-fits-as (a .items .now) _ _ (search needs) (all .fits 1 (omega arith) (omega arith)))
+
+tally-requires : tie.Need-tally-requires
+tally-requires c κs =
+    let s = c .before .before .before .before .before .before .before .before .before .before .before .before .before .before .before .before .before .before .before in
+    let few = s .pre .0 .few in
+    (search needs, search needs)
 
 same-length : tie.Need-same-length
 same-length c = search needs
@@ -43,16 +50,19 @@ same-length-2 c = search needs
 same-length-3 : tie.Need-same-length-3
 same-length-3 c = search needs
 
+same-length-4 : tie.Need-same-length-4
+same-length-4 c = search needs
+
 returns : tie.Need-returns
 returns c =
-    let s = c .before .before .before .before .before .before .before .before .before .before .before .before .before .before .before .before .before in
+    let s = c .before .before .before .before .before .before .before .before .before .before .before .before .before .before .before .before .before .before .before .before .before in
     let a = s .args in
     let ts = map trackOf (a .tracks .now) in
     let long = length-map (a .tracks .now) trackOf in
-    let few : length ts ≤ 256 = omega (arith, s .pre .0) in
-    let e = c .before .singles .ensures in
-    let g = c .before .before .before .before .before .before .before .before .before .gather .ensures in
-    (prepared (a .constraint) ts (a .items .now) _ _ few (items-fit-as (map itemOf (a .items .now)) long (s .pre .5)) (search needs) g _ _ (c .before .before .before .before .before .before .before .before .before .before .before .before .before .start .ensures) (e .0), e .1, g)
+    let few : length ts ≤ mostTracks = omega (arith, s .pre .0 .few) in
+    let e = c .before .before .before .before .before .singles .ensures in
+    let g = c .before .before .before .before .before .before .before .before .before .before .before .before .before .gather .ensures in
+    (prepared (a .constraint) ts (a .items .now) _ _ few (items-fit-as (map itemOf (a .items .now)) long (s .pre .0 .items-fit)) (search needs) g _ _ (c .before .before .before .before .before .before .before .before .before .before .before .before .before .before .before .before .before .start .ensures) (e .0), e .1, g, c .before .tally .ensures)
 
 pub prepare-spec : {M : Type 1} → statement M
 prepare-spec =
@@ -62,7 +72,9 @@ prepare-spec =
     gather-requires
     slice-read-singles
     singles-requires
+    tally-requires
     same-length
     same-length-2
     same-length-3
+    same-length-4
     returns)

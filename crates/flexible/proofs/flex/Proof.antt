@@ -18,7 +18,7 @@ expand-requires : tie.Need-expand-requires
 expand-requires c κs =
     let a = c .before .before .before .before .before .before .before .before in
     let few = a .pre .0 .few in
-    (subst FrFits (sym (c .before .before .before .fr-over .ensures)) (fr-over-bounds (linesOf (a .args .lines .now)) (omega (arith, length-map (a .args .lines .now) lineOf)) (a .pre .0 .fits) (length (a .args .lines .now)) (a .args .e) _ (a .pre .1 .1 .1) (a .pre .1 .0 .fits) .fits), a .pre .0 .fits)
+    (subst FrFits (sym (c .before .before .before .fr-over .ensures)) (fr-over-bounds (linesOf (a .args .lines .now)) (omega (arith, length-map (a .args .lines .now) lineOf)) (a .pre .0 .fits) (length (a .args .lines .now)) (a .args .e) _ (a .pre .1 .1 .1) (a .pre .1 .0 .fit) .fits), a .pre .0 .fits)
 
 same-length : tie.Need-same-length
 same-length c = search needs

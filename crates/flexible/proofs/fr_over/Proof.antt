@@ -32,8 +32,8 @@ enum-told c = search needs
 enum-told-2 : tie.Need-enum-told-2
 enum-told-2 c = search needs
 
-content-fr-requires : tie.Need-content-fr-requires
-content-fr-requires c κs = search needs
+max-content-fr-requires : tie.Need-max-content-fr-requires
+max-content-fr-requires c κs = search needs
 
 returns-2 : tie.Need-returns-2
 returns-2 c =
@@ -51,7 +51,7 @@ same-length-2 c = search needs
 returns-4 : tie.Need-returns-4
 returns-4 c =
     let a = c .before .before .before .before .before .before .before .before .args in
-    c .before .before .content-fr .ensures ∙ ap (λ (e : Constraint). frOver e (chained (a .items .now) (a .nexts .now) (a .first)) (linesOf (a .lines .now))) (sym (c .before .before .before .before .enum-told2 .given .1))
+    c .before .before .max-content-fr .ensures ∙ ap (λ (e : Constraint). frOver e (chained (a .items .now) (a .nexts .now) (a .first)) (linesOf (a .lines .now))) (sym (c .before .before .before .before .enum-told2 .given .1))
 
 pub fr-over-spec : {M : Type 1} → statement M
 fr-over-spec =
@@ -64,7 +64,7 @@ fr-over-spec =
     returns
     enum-told
     enum-told-2
-    content-fr-requires
+    max-content-fr-requires
     returns-2
     returns-3
     same-length-2

@@ -21,7 +21,7 @@ put-answer-requires : tie.Need-put-answer-requires
 put-answer-requires c κs =
     let entry = c .before .before .before .before .before .before .before .before in
     let sized = c .before .before .before .board in
-    let n = c .before .before .places2 .given in
+    let n = c .before .before .sizes2 .given in
     (tracks-within (entry .args .bytes .now) (sized .result) _ (sized .ensures .0) (omega arith), omega (arith, c .before .before .before .before .before .if1 .left))
 
 same-length : tie.Need-same-length

@@ -1,8 +1,8 @@
 -- `space_fault` is what is wrong with the row of a space: each part of the record in its turn. Assumes nothing.
 use borrow.Author.Needs.{needs}
 use Rattle.laws.specs.Rows.{elements}
+use Rattle.laws.specs.Faults.{first-fine}
 use mathlib.Core.Path.{sym, ap, _∙_, ap₂}
-use Rattle.records.proofs.Firsts.{first-fine}
 use Rattle.records.specs.Rule.{Row, constraintTags, givenTags, spaceRecord, rowFault, first, recordSize}
 use Rattle.records.proofs.TagUses.{tagged-fault-of-use}
 use Rattle.rows.specs.Shapes.{width}

@@ -5,7 +5,7 @@ use Rattle.kinds.specs.Kinds.{amountAt}
 use Rattle.kinds.specs.declared.item.ContributionKind.{ContributionKind}
 use Rattle.kinds.specs.declared.item.Item.{Item}
 use Rattle.checks.specs.Rule.{amountOver, mostContribution}
-use Rattle.checks.proofs.Three.{some-by-first, some-by-second, some-by-third}
+use Rattle.spanned.proofs.Three.{some-by-first, some-by-second, some-by-third}
 use Rattle.checks.proofs.over.item_over.Statement.{statement}
 use Rattle.checks.proofs.over.item_over.Tie as tie
 

@@ -9,11 +9,11 @@ use Rattle.flexible.proofs.grow.flexed.Tie as tie
 of-row-requires : tie.Need-of-row-requires
 of-row-requires c κs = search needs
 
-is-fr-requires : tie.Need-is-fr-requires
-is-fr-requires c κs = search needs
+row-is-fr-requires : tie.Need-row-is-fr-requires
+row-is-fr-requires c κs = search needs
 
-factor-requires : tie.Need-factor-requires
-factor-requires c κs = search needs
+maximum-number-requires : tie.Need-maximum-number-requires
+maximum-number-requires c κs = search needs
 
 cast-dots : tie.Need-cast-dots
 cast-dots c = search needs
@@ -25,7 +25,7 @@ cast-share : tie.Need-cast-share
 cast-share c = search needs
 
 mul-share : tie.Need-mul-share
-mul-share c = product-fits (c .before .before .factor .result) (c .before .before .before .before .before .args .fr .dots) (search needs) (search needs)
+mul-share c = product-fits (c .before .before .maximum-number .result) (c .before .before .before .before .before .args .fr .dots) (search needs) (search needs)
 
 div-share : tie.Need-div-share
 div-share c = search needs
@@ -33,7 +33,7 @@ div-share c = search needs
 cast-larger : tie.Need-cast-larger
 cast-larger c =
     let a = c .before .before .before .before .before in
-    record { fits = omega (arith, share-le (c .before .before .factor .result) (a .args .fr .dots) (a .args .fr .per) (omega (arith, c .before .before .factor .ensures, a .pre .1)) (a .pre .0 .dots) (a .pre .0 .per)) }
+    record { fits = omega (arith, share-le (c .before .before .maximum-number .result) (a .args .fr .dots) (a .args .fr .per) (omega (arith, c .before .before .maximum-number .ensures, a .pre .1)) (a .pre .0 .dots) (a .pre .0 .per)) }
 
 larger-requires : tie.Need-larger-requires
 larger-requires c κs = search needs
@@ -47,16 +47,16 @@ with-sizes-requires c κs = search needs
 returns : tie.Need-returns
 returns c =
     let a = c .before .before .before .before .before .before .before .before .args in
-    flexed-row (a .fr) (a .row) (c .before .before .before .before .before .before .before .of-row .result) (c .before .before .before .before .before .before .before .of-row .ensures) (c .with-sizes .result) (c .before .before .before .before .before .before .is-fr .result) (c .before .before .before .before .before .factor .result) (c .before .before .larger .result) (c .before .choose .result)
-    (c .before .before .before .before .before .before .is-fr .ensures) (c .before .before .before .before .before .factor .ensures) (c .before .before .larger .ensures) (c .before .choose .ensures) (c .with-sizes .ensures)
+    flexed-row (a .fr) (a .row) (c .before .before .before .before .before .before .before .of-row .result) (c .before .before .before .before .before .before .before .of-row .ensures) (c .with-sizes .result) (c .before .before .before .before .before .before .row-is-fr .result) (c .before .before .before .before .before .maximum-number .result) (c .before .before .larger .result) (c .before .choose .result)
+    (c .before .before .before .before .before .before .row-is-fr .ensures) (c .before .before .before .before .before .maximum-number .ensures) (c .before .before .larger .ensures) (c .before .choose .ensures) (c .with-sizes .ensures)
 
 pub flexed-spec : {M : Type 1} → statement M
 flexed-spec =
     tie.close
     (tie.spec
     of-row-requires
-    is-fr-requires
-    factor-requires
+    row-is-fr-requires
+    maximum-number-requires
     cast-dots
     cast-per
     cast-share

@@ -47,8 +47,8 @@ add-sizes c =
     let m = held-sizes-small (a .args .lines .now) (a .args .held .now) (a .pre) in
     record { fits = omega (arith, c .choose .ensures) }
 
-factor-requires : tie.Need-factor-requires Inv-loop μ-loop
-factor-requires c κs = search needs
+maximum-number-requires : tie.Need-maximum-number-requires Inv-loop μ-loop
+maximum-number-requires c κs = search needs
 
 choose-requires-2 : tie.Need-choose-requires-2 Inv-loop μ-loop
 choose-requires-2 c κs = search needs
@@ -59,7 +59,7 @@ add-factors c =
     let a = c .before .before .before .before .before .before .before .before in
     let s = sum-step (a .args .lines .now) (a .args .held .now) (l .loop .i) (search needs) (search needs) openFactor in
     let m = open-factors-small (a .args .lines .now) (a .args .held .now) (a .pre) in
-    record { fits = omega (arith, c .choose2 .ensures ∙ ap (cond (getD (a .args .held .now) (l .loop .i) false) 0) (c .before .factor .ensures)) }
+    record { fits = omega (arith, c .choose2 .ensures ∙ ap (cond (getD (a .args .held .now) (l .loop .i) false) 0) (c .before .maximum-number .ensures)) }
 
 add-i : tie.Need-add-i Inv-loop μ-loop
 add-i c = search needs
@@ -72,7 +72,7 @@ loop-again c =
     let l = c .before .before .before .before .before .before in
     let a = c .before .before .before .before .before .before .before .before in
     let s = sum-step (a .args .lines .now) (a .args .held .now) (l .loop .i) (search needs) (search needs) in
-    (search needs, omega (arith, c .before .before .choose .ensures, s heldSize), omega (arith, c .choose2 .ensures ∙ ap (cond (getD (a .args .held .now) (l .loop .i) false) 0) (c .before .factor .ensures), s openFactor))
+    (search needs, omega (arith, c .before .before .choose .ensures, s heldSize), omega (arith, c .choose2 .ensures ∙ ap (cond (getD (a .args .held .now) (l .loop .i) false) 0) (c .before .maximum-number .ensures), s openFactor))
 
 less-requires : tie.Need-less-requires Inv-loop μ-loop
 less-requires c κs = search needs
@@ -101,7 +101,7 @@ fr-now-spec =
     array-read-choose
     choose-requires
     add-sizes
-    factor-requires
+    maximum-number-requires
     choose-requires-2
     add-factors
     add-i

@@ -27,8 +27,8 @@ mul-row c = search needs
 shared-slice-copy-out-row : tie.Need-shared-slice-copy-out-row Inv-loop μ-loop
 shared-slice-copy-out-row c = search needs
 
-is-fr-requires : tie.Need-is-fr-requires Inv-loop μ-loop
-is-fr-requires c κs = search needs
+row-is-fr-requires : tie.Need-row-is-fr-requires Inv-loop μ-loop
+row-is-fr-requires c κs = search needs
 
 slice-write-held : tie.Need-slice-write-held Inv-loop μ-loop
 slice-write-held c = search needs
@@ -47,7 +47,7 @@ loop-again c =
       search needs,
       search needs,
       store-step _ _ (λ _. heldFirst (linesOf (drop i (a .lines .now)))) (λ _. heldFirst (linesOf (drop (i + 1) (a .lines .now)))) _ false _ (c .before .before .loop-test .taken)
-          (first-step (a .lines .now) i _ (search needs) (ap not (c .is-fr .ensures))) (l .loop .inv .2),
+          (first-step (a .lines .now) i _ (search needs) (ap not (c .row-is-fr .ensures))) (l .loop .inv .2),
     )
 
 same-length : tie.Need-same-length Inv-loop μ-loop
@@ -68,7 +68,7 @@ hold-first-spec =
     loop-holds
     mul-row
     shared-slice-copy-out-row
-    is-fr-requires
+    row-is-fr-requires
     slice-write-held
     add-i
     loop-less

@@ -5,8 +5,8 @@ use Rattle.flexible.proofs.Products.{product-fits}
 use Rattle.flexible.proofs.Walks.{short-open}
 use Rattle.flexible.proofs.search.is_short.Tie as tie
 
-factor-requires : tie.Need-factor-requires
-factor-requires c κs = search needs
+maximum-number-requires : tie.Need-maximum-number-requires
+maximum-number-requires c κs = search needs
 
 cast-share : tie.Need-cast-share
 cast-share c = search needs
@@ -33,13 +33,13 @@ returns : tie.Need-returns
 returns c = rw (c .if1 .taken)
 
 returns-2 : tie.Need-returns-2
-returns-2 c = short-open (c .before .before .before .before .args .fr) (c .before .before .before .before .args .t2) _ _ (c .if1 .left) (c .before .before .before .factor .ensures)
+returns-2 c = short-open (c .before .before .before .before .args .fr) (c .before .before .before .before .args .t2) _ _ (c .if1 .left) (c .before .before .before .maximum-number .ensures)
 
 pub is-short-spec : {M : Type 1} → statement M
 is-short-spec =
     tie.close
     (tie.spec
-    factor-requires
+    maximum-number-requires
     cast-share
     cast-share-2
     mul-share

@@ -2,11 +2,11 @@
 use mathlib.Core.Path.{sym, _∙_}
 use native.Mathlib.Omega.{arith}
 use borrow.Author.Tests.{not-true, not-false}
-use Rattle.domain.specs.declared.kind.Kind.the-variants.{Size}
-use Rattle.domain.specs.Domain.{given, numbersOf}
-use Rattle.domain.proofs.Outside.{outside-then}
-use Rattle.domain.proofs.F32.{f32-of-size, f32-of-slice}
-use Rattle.floats.proofs.Fine.{first-of-passed, first-of-failed, of-refused}
+use Rattle.float_domain.specs.declared.kind.Kind.the-variants.{Size}
+use Rattle.float_domain.specs.Domain.{numbersOf}
+use Rattle.float_domain.proofs.Outside.{outside-then}
+use Rattle.float_domain.proofs.F32.{f32-of-size, f32-of-slice}
+use Rattle.floats.proofs.Fine.{first-of-passed, first-of-failed, of-fault}
 use Rattle.floats.proofs.Rust.{gutter-inputs}
 use Rattle.floats.specs.Rule.{sizeNumber}
 use borrow.Author.Needs.{needs}
@@ -19,7 +19,7 @@ two-fit-requires c κs = search needs
 returns : tie.Need-returns
 returns c =
     let is = first-of-failed _ 12 0 _ (sym (c .before .two-fit .ensures) ∙ not-true _ (c .if1 .taken)) in
-    (is, of-refused 12 0 is)
+    (is, of-fault 12 0 is)
 
 is-gutter-count-requires : tie.Need-is-gutter-count-requires
 is-gutter-count-requires c κs = search needs
@@ -29,7 +29,7 @@ returns-2 c =
     let is =
     first-of-failed _ 14 0 _ (sym (c .before .is-gutter-count .ensures) ∙ not-true _ (c .if2 .taken))
     ∙ first-of-passed _ 12 0 _ (sym (c .before .before .before .two-fit .ensures) ∙ not-false _ (c .before .before .if1 .left)) in
-    (is, of-refused 14 0 is)
+    (is, of-fault 14 0 is)
 
 slice-fault-requires : tie.Need-slice-fault-requires
 slice-fault-requires c κs = search needs

@@ -1,6 +1,6 @@
 -- `size_fault`, by whether there is a size. Assumes nothing.
 use mathlib.Core.Path.{refl}
-use Rattle.domain.specs.Domain.{outsideFrom}
+use Rattle.float_domain.specs.Domain.{outsideFrom}
 use borrow.Author.Needs.{needs}
 use Rattle.floats.proofs.adjusting.size_fault.Statement.{statement}
 use Rattle.floats.proofs.adjusting.size_fault.Tie as tie

@@ -4,11 +4,11 @@ use Prim.Native.Nat.{_+_, _*_}
 use native.Mathlib.Omega.{arith}
 use borrow.Author.Tests.{not-true, not-false}
 use lib.ListN.{length}
-use Rattle.domain.specs.declared.kind.Kind.the-variants.{Size, Limit, Proportion}
-use Rattle.domain.specs.Domain.{given, numbersOf, tracksNumbers}
-use Rattle.domain.proofs.Outside.{outside-then, outside-both, length-numbers-of, length-tracks-numbers}
-use Rattle.domain.proofs.F32.{f32-of-fits, f32-of-slice}
-use Rattle.floats.proofs.Fine.{first-of-passed, first-of-failed, of-refused, both-fine}
+use Rattle.float_domain.specs.declared.kind.Kind.the-variants.{Size, Limit, Proportion}
+use Rattle.float_domain.specs.Domain.{given, numbersOf, tracksNumbers}
+use Rattle.float_domain.proofs.Outside.{outside-then, outside-both, length-numbers-of, length-tracks-numbers}
+use Rattle.float_domain.proofs.F32.{f32-of-fits, f32-of-slice}
+use Rattle.floats.proofs.Fine.{first-of-passed, first-of-failed, of-fault, fine-of-first}
 use Rattle.floats.proofs.Lengths.{one-length}
 use Rattle.floats.proofs.Rust.{distribution-inputs}
 use borrow.Author.Needs.{needs}
@@ -21,7 +21,7 @@ five-fit-requires c κs = search needs
 returns : tie.Need-returns
 returns c =
     let is = first-of-failed _ 12 0 _ (sym (c .before .five-fit .ensures) ∙ not-true _ (c .if1 .taken)) in
-    (is, of-refused 12 0 is)
+    (is, of-fault 12 0 is)
 
 mul-slice-fault : tie.Need-mul-slice-fault
 mul-slice-fault c = search needs
@@ -90,7 +90,7 @@ returns-2 c =
       is,
       λ h.
           distribution-inputs (a .space) (a .tracks .now) (a .affected .now) (a .proportions .now) (a .sizes .now) (a .limits .now) (f32-of-fits (a .space) (entry .good .0 .1))
-          (rows .ensures .1 (both-fine (rows .result) (c .before .before .before .before .first2 .result) (behind .ensures) (both-fine (c .before .number-fault .result) (behind .result) (c .first4 .ensures) (is ∙ h) .1) .0))
+          (rows .ensures .1 (fine-of-first (rows .result) (c .before .before .before .before .first2 .result) (behind .ensures) (fine-of-first (c .before .number-fault .result) (behind .result) (c .first4 .ensures) (is ∙ h) .1) .0))
           (f32-of-slice (a .proportions .now) (c .before .before .before .before .before .before .before .before .before .before .before .before .before .shared-slice-known2 .given)) (f32-of-slice (a .sizes .now) (c .before .before .before .before .before .before .before .before .before .before .before .before .shared-slice-known3 .given)) (f32-of-slice (a .limits .now) (c .before .before .before .before .before .before .before .before .before .before .before .shared-slice-known4 .given)) h,
     )
 

@@ -2,12 +2,12 @@
 use mathlib.Core.Path.{_∙_, ap, subst}
 use mathlib.Core.List.{List}
 use lib.Ieee.{Float}
-use Rattle.domain.specs.Domain.{outsideFrom, trackNumbers}
+use Rattle.float_domain.specs.Domain.{outsideFrom, trackNumbers}
 use Rattle.laws.specs.Lists.{All}
 use Rattle.float_laws.specs.Numbers.{IsF32}
 use Rattle.floats.proofs.Calls.{told-refused, told-answer}
 use Rattle.floats.proofs.Rust.{flush-inputs}
-use Rattle.floats.specs.Rule.{flushFinding, flushed}
+use Rattle.floats.specs.Rule.{flushFault, flushed}
 use Rattle.float_track.specs.Track.{flushBase}
 use borrow.Author.Needs.{needs}
 use Rattle.floats.proofs.flushing.flush_planned_base_size_increases.Statement.{statement}
@@ -34,7 +34,7 @@ returns c =
     let fault = c .before .before .before .track-fault in
     let is = fault .ensures .0 ∙ ap (λ (row : List Float). outsideFrom 0 (trackNumbers row)) (c .before .before .before .before .row .ensures) in
     let inputs = flush-inputs t (subst (All IsF32) (c .before .before .before .before .row .ensures) (fault .ensures .1)) in
-    (told-refused (fault .result) (flushFinding t) is (flushed (flushBase t)) (c .before .fault .given .0 .0) (c .before .fault .given .1), inputs)
+    (told-refused (fault .result) (flushFault t) is (flushed (flushBase t)) (c .before .fault .given .0 .0) (c .before .fault .given .1), inputs)
 
 returns-2 : tie.Need-returns-2
 returns-2 c =
@@ -42,7 +42,7 @@ returns-2 c =
     let fault = c .before .before .before .track-fault in
     let is = fault .ensures .0 ∙ ap (λ (row : List Float). outsideFrom 0 (trackNumbers row)) (c .before .before .before .before .row .ensures) in
     let inputs = flush-inputs t (subst (All IsF32) (c .before .before .before .before .row .ensures) (fault .ensures .1)) in
-    (ap flushed (c .flush-planned-base-size-increases .ensures) ∙ told-answer (fault .result) (flushFinding t) is (flushed (flushBase t)) (c .before .enum-told .given .1), inputs)
+    (ap flushed (c .flush-planned-base-size-increases .ensures) ∙ told-answer (fault .result) (flushFault t) is (flushed (flushBase t)) (c .before .enum-told .given .1), inputs)
 
 pub flush-planned-base-size-increases-spec : {M : Type 1} → statement M
 flush-planned-base-size-increases-spec =

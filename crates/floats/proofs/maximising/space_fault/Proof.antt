@@ -1,6 +1,6 @@
 -- `space_fault`, by cases on the space. Assumes nothing.
 use mathlib.Core.Path.{refl}
-use Rattle.domain.specs.Domain.{outsideFrom}
+use Rattle.float_domain.specs.Domain.{outsideFrom}
 use borrow.Author.Needs.{needs}
 use Rattle.floats.proofs.maximising.space_fault.Statement.{statement}
 use Rattle.floats.proofs.maximising.space_fault.Tie as tie

@@ -2,10 +2,10 @@
 use mathlib.Core.Path.{sym, _∙_}
 use native.Mathlib.Omega.{arith}
 use borrow.Author.Tests.{not-true, not-false}
-use Rattle.domain.specs.Domain.{tracksNumbers}
-use Rattle.domain.proofs.Outside.{outside-then}
-use Rattle.domain.proofs.F32.{f32-of-size, f32-of-space}
-use Rattle.floats.proofs.Fine.{first-of-passed, first-of-failed, of-refused, both-fine}
+use Rattle.float_domain.specs.Domain.{tracksNumbers}
+use Rattle.float_domain.proofs.Outside.{outside-then}
+use Rattle.float_domain.proofs.F32.{f32-of-size, f32-of-space}
+use Rattle.floats.proofs.Fine.{first-of-passed, first-of-failed, of-fault, fine-of-first}
 use Rattle.floats.proofs.Rust.{stretch-inputs}
 use Rattle.floats.specs.Rule.{sizeNumber, spaceNumber}
 use borrow.Author.Needs.{needs}
@@ -18,7 +18,7 @@ two-fit-requires c κs = search needs
 returns : tie.Need-returns
 returns c =
     let is = first-of-failed _ 12 0 _ (sym (c .before .two-fit .ensures) ∙ not-true _ (c .if1 .taken)) in
-    (is, of-refused 12 0 is)
+    (is, of-fault 12 0 is)
 
 tracks-fault-requires : tie.Need-tracks-fault-requires
 tracks-fault-requires c κs = search needs
@@ -48,7 +48,7 @@ returns-2 c =
       is,
       λ h.
           stretch-inputs (a .tracks .now) (a .autos .now) (a .minimum) (a .space)
-          (rows .ensures .1 (both-fine (c .before .before .before .space-fault .result) (rows .result) (behind .ensures) (both-fine (c .before .size-fault .result) (behind .result) (c .first2 .ensures) (is ∙ h) .1) .1))
+          (rows .ensures .1 (fine-of-first (c .before .before .before .space-fault .result) (rows .result) (behind .ensures) (fine-of-first (c .before .size-fault .result) (behind .result) (c .first2 .ensures) (is ∙ h) .1) .1))
           (f32-of-size (a .minimum) _ (entry .good .1 .1 .0)) (f32-of-space (a .space) _ (entry .good .1 .1 .1 .0)) h,
     )
 

@@ -47,7 +47,7 @@ grown-requires c κs =
     let s = c .before .before .before .before .before in
     let a = s .args in
     let h = c .before .before .before .loop in
-    present-same (letterOf (a .letter) .present) _ _ _ _ (same-here (h .lines) (a .lines .now) (h .i) (h .inv .3) []) (same-here (h .increases) (a .increases .now) (h .i) (h .inv .4) 0) (s .pre .1 (h .i) (search needs))
+    present-same (letterOf (a .letter) .present) _ _ _ _ (same-here (h .lines) (a .lines .now) (h .i) (h .inv .3) []) (same-here (h .increases) (a .increases .now) (h .i) (h .inv .4) 0) (s .pre .fits (h .i) (search needs))
 
 mul-t12 : tie.Need-mul-t12 Inv-loop μ-loop
 mul-t12 c = search needs
@@ -94,7 +94,7 @@ returns c =
     let a = c .before .before .before .args in
     let h = c .before .loop in (
       seen-end lineOf (h .lines) (h .i) (λ (ls : List Line). zipWith (letterOf (a .letter) .grown) ls (drop (h .i) (a .increases .now))) _ (search needs) (grown-nil (letterOf (a .letter) .grown) _) (h .inv .5),
-      store-end (h .increases) (h .i) (λ (l : List ℕ). replicate (length l) 0) _ (search needs) refl (h .inv .6) ∙ ap (λ (n : ℕ). replicate n 0) (c .before .before .before .pre .0),
+      store-end (h .increases) (h .i) (λ (l : List ℕ). replicate (length l) 0) _ (search needs) refl (h .inv .6) ∙ ap (λ (n : ℕ). replicate n 0) (c .before .before .before .pre .long),
     )
 
 pub apply-spec : {M : Type 1} → statement M

@@ -23,7 +23,7 @@ with-sizes-requires c κs = search needs
 returns : tie.Need-returns
 returns c =
     let a = c .before .before .before .args in
-    c .with-sizes .ensures ∙ ap (λ (l : Line). line (lineOf (a .row) .track) (l .base + a .increase) (l .limit) (l .grows)) (c .before .before .of-row .ensures)
+    c .with-sizes .ensures ∙ ap (λ (l : Line). line (lineOf (a .row) .track) (l .base + a .increase) (l .limit) (l .growable)) (c .before .before .of-row .ensures)
 
 pub grown-base-spec : {M : Type 1} → statement M
 grown-base-spec = tie.close (tie.spec of-row-requires add-with-sizes with-sizes-requires returns)

@@ -31,14 +31,14 @@ returns c =
     c .before .before .before .room-from .ensures
     ∙ ap₂ (λ (m : Limit) (size : ℕ). roomTo m size) (c .before .before .before .before .before .argument .ensures) (c .before .before .before .before .limit-size .ensures)
     ∙ room-of-growable (l .limit) _
-    ∙ ap (λ (grows : Bool). cond (isNone (l .limit) || grows) (roomTo (argument l) (limitSize l)) (upTo 0)) (sym (c .if1 .taken))
+    ∙ ap (λ (growable : Bool). cond (isNone (l .limit) || growable) (roomTo (argument l) (limitSize l)) (upTo 0)) (sym (c .if1 .taken))
 
 returns-2 : tie.Need-returns-2
 returns-2 c =
     let l = c .before .before .before .before .before .args .line in
     c .before .before .room-from .ensures
     ∙ ap₂ (λ (m : Limit) (size : ℕ). roomTo m size) (c .before .before .before .before .argument .ensures) (c .before .before .before .limit-size .ensures)
-    ∙ ap (λ (m : Limit). cond (isNone m || l .grows) (roomTo (argument l) (limitSize l)) (upTo 0)) (sym (c .enum-told .given .1))
+    ∙ ap (λ (m : Limit). cond (isNone m || l .growable) (roomTo (argument l) (limitSize l)) (upTo 0)) (sym (c .enum-told .given .1))
 
 returns-3 : tie.Need-returns-3
 returns-3 c = search needs

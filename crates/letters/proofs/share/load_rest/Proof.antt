@@ -20,16 +20,16 @@ use Rattle.letters.proofs.Shared.{rest-cap-le}
 use Rattle.letters.proofs.share.load_rest.Tie as tie
 
 abbrev Inv-loop : tie.InvT-loop
-Inv-loop letter narrow dots lines gains₀ rests₀ i₀ gains rests i =
+Inv-loop letter takersOnly dots lines gains₀ rests₀ i₀ gains rests i =
     (i ≤ length lines)
     × (length gains ≡ length gains₀)
     × (length rests ≡ length rests₀)
     × (drop i gains ≡ drop i gains₀)
-    × (take i gains ++ cappedFrom (letterOf letter) narrow dots lines i (drop i gains) ≡ cappedFrom (letterOf letter) narrow dots lines 0 gains₀)
-    × (take i rests ++ restCapsFrom (letterOf letter) narrow dots lines gains₀ i ≡ restCapsFrom (letterOf letter) narrow dots lines gains₀ 0)
+    × (take i gains ++ cappedFrom (letterOf letter) takersOnly dots lines i (drop i gains) ≡ cappedFrom (letterOf letter) takersOnly dots lines 0 gains₀)
+    × (take i rests ++ restCapsFrom (letterOf letter) takersOnly dots lines gains₀ i ≡ restCapsFrom (letterOf letter) takersOnly dots lines gains₀ 0)
 
 abbrev μ-loop : tie.MeasureT-loop
-μ-loop letter narrow dots lines gains₀ rests₀ i₀ gains rests i = length lines - i
+μ-loop letter takersOnly dots lines gains₀ rests₀ i₀ gains rests i = length lines - i
 
 loop-holds : tie.Need-loop-holds Inv-loop μ-loop
 loop-holds c = (zero-le, refl, refl, refl, refl, refl)
@@ -67,10 +67,10 @@ add-gains c =
     let one =
     c .cap-of .ensures
     ∙ ap₂ (λ (takes : Bool) (room : Room). cond takes (capIn (a .dots) room) 0) (c .before .before .takes-rest .ensures) (c .before .rest-room .ensures)
-    ∙ ap (λ (l : Line). capOf (a .dots) (restOf (letterOf (a .letter)) (a .narrow) l now)) (c .before .before .before .before .of-row .ensures) in
+    ∙ ap (λ (l : Line). capOf (a .dots) (restOf (letterOf (a .letter)) (a .takers-only) l now)) (c .before .before .before .before .of-row .ensures) in
     let same = same-here (h .gains) (a .gains .now) (h .i) (h .inv .3) 0 in
-    let few = s .pre .3 (h .i) in
-    let le = rest-cap-le (a .letter) (a .narrow) (a .dots) now (lineOf (getD (a .lines .now) (h .i) [])) (s .pre .2) (line-fits (a .lines .now) (h .i) (s .pre .4) (search needs)) in
+    let few = s .pre .2 (h .i) in
+    let le = rest-cap-le (a .letter) (a .takers-only) (a .dots) now (lineOf (getD (a .lines .now) (h .i) [])) (s .pre .1) (line-fits (a .lines .now) (h .i) (s .pre .3) (search needs)) in
     search needs
 
 mul-gains : tie.Need-mul-gains Inv-loop μ-loop
@@ -100,20 +100,20 @@ loop-again c =
     let one =
     c .cap-of .ensures
     ∙ ap₂ (λ (takes : Bool) (room : Room). cond takes (capIn (a .dots) room) 0) (c .before .before .takes-rest .ensures) (c .before .rest-room .ensures)
-    ∙ ap (λ (l : Line). capOf (a .dots) (restOf (letterOf (a .letter)) (a .narrow) l now)) (c .before .before .before .before .of-row .ensures) in
+    ∙ ap (λ (l : Line). capOf (a .dots) (restOf (letterOf (a .letter)) (a .takers-only) l now)) (c .before .before .before .before .of-row .ensures) in
     let same = same-here (h .gains) (a .gains .now) (h .i) (h .inv .3) 0 in
     let line = lineOf (getD (a .lines .now) (h .i) []) in
-    let capped = cappedFrom (letterOf (a .letter)) (a .narrow) (a .dots) (a .lines .now) in
-    let from = restCapsFrom (letterOf (a .letter)) (a .narrow) (a .dots) (a .lines .now) (a .gains .now) in
-    let at = one ∙ ap (λ (g : ℕ). capOf (a .dots) (restOf (letterOf (a .letter)) (a .narrow) line g)) same in (
+    let capped = cappedFrom (letterOf (a .letter)) (a .takers-only) (a .dots) (a .lines .now) in
+    let from = restCapsFrom (letterOf (a .letter)) (a .takers-only) (a .dots) (a .lines .now) (a .gains .now) in
+    let at = one ∙ ap (λ (g : ℕ). capOf (a .dots) (restOf (letterOf (a .letter)) (a .takers-only) line g)) same in (
       search needs,
       simp length-set (h .inv .1),
       simp length-set (h .inv .2),
       same-next (h .gains) (a .gains .now) (h .i) (h .inv .3) _,
       store-step (h .gains) (h .i) (capped (h .i)) (capped (h .i + 1)) _ 0 _ (search needs)
-          (capped-step (letterOf (a .letter)) (a .narrow) (a .dots) (a .lines .now) (h .i) _ _ _ (search needs) (ap (λ (k : ℕ). now + k) one)) (h .inv .4),
+          (capped-step (letterOf (a .letter)) (a .takers-only) (a .dots) (a .lines .now) (h .i) _ _ _ (search needs) (ap (λ (k : ℕ). now + k) one)) (h .inv .4),
       store-step (h .rests) (h .i) (λ (_ : List ℕ). from (h .i)) (λ (_ : List ℕ). from (h .i + 1)) _ 0 _ (search needs)
-          (rest-caps-step (letterOf (a .letter)) (a .narrow) (a .dots) (a .lines .now) (a .gains .now) (h .i) _ (search needs) (search needs) at) (h .inv .5),
+          (rest-caps-step (letterOf (a .letter)) (a .takers-only) (a .dots) (a .lines .now) (a .gains .now) (h .i) _ (search needs) (search needs) at) (h .inv .5),
     )
 
 same-length : tie.Need-same-length Inv-loop μ-loop
@@ -126,11 +126,11 @@ returns : tie.Need-returns Inv-loop μ-loop
 returns c =
     let a = c .before .before .before .before .args in
     let h = c .before .loop in
-    let capped = cappedFrom (letterOf (a .letter)) (a .narrow) (a .dots) (a .lines .now) in
-    let from = restCapsFrom (letterOf (a .letter)) (a .narrow) (a .dots) (a .lines .now) (a .gains .now) in (
-      store-end (h .gains) (h .i) (capped (h .i)) _ (search needs) (capped-nil (letterOf (a .letter)) (a .narrow) (a .dots) (a .lines .now) (h .i)) (h .inv .4),
+    let capped = cappedFrom (letterOf (a .letter)) (a .takers-only) (a .dots) (a .lines .now) in
+    let from = restCapsFrom (letterOf (a .letter)) (a .takers-only) (a .dots) (a .lines .now) (a .gains .now) in (
+      store-end (h .gains) (h .i) (capped (h .i)) _ (search needs) (capped-nil (letterOf (a .letter)) (a .takers-only) (a .dots) (a .lines .now) (h .i)) (h .inv .4),
       store-end (h .rests) (h .i) (λ (_ : List ℕ). from (h .i)) _ (search needs)
-          (rest-caps-end (letterOf (a .letter)) (a .narrow) (a .dots) (a .lines .now) (a .gains .now) (h .i) (search needs)) (h .inv .5),
+          (rest-caps-end (letterOf (a .letter)) (a .takers-only) (a .dots) (a .lines .now) (a .gains .now) (h .i) (search needs)) (h .inv .5),
     )
 
 pub load-rest-spec : {M : Type 1} → statement M

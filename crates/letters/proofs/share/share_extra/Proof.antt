@@ -30,8 +30,8 @@ share-rest-requires : tie.Need-share-rest-requires
 share-rest-requires c κs =
     let s = c .before .before .before .before .before .before .before .before .before .before .before .before .before in
     let le = first-le (s .args .letter) (s .args .extra) (linesOf (s .args .lines .now)) _ _ (c .before .before .before .before .before .before .before .before .share-first .ensures) in
-    let few = s .pre .3 in
-    (search needs, search needs, search needs, omega (arith, le 0), λ (i : ℕ). omega (arith, le i), s .pre .4)
+    let few = s .pre .1 in
+    (record { few = s .pre .0 .few; gains-long = search needs; rests-long = search needs }, omega (arith, le 0), λ (i : ℕ). omega (arith, le i), s .pre .2)
 
 same-length-3 : tie.Need-same-length-3
 same-length-3 c = search needs

@@ -14,8 +14,8 @@ collect-requires : tie.Need-collect-requires
 collect-requires c κs =
     let s = c .before .before .before .before .before .before .before .before .before .before .before .before in
     let a = s .args in
-    let loaded = share-caps (a .share) (a .dots) (a .lines .now) (a .gains .now) _ (s .pre .0) (c .before .before .before .before .before .before .before .before .load .ensures) in
-    (search needs, search needs, shared-fits _ _ _ _ _ _ _ _ loaded (c .before .before .before .before .run-rounds .ensures) (s .pre .3) (s .pre .4))
+    let loaded = share-caps (a .share) (a .dots) (a .lines .now) (a .gains .now) _ (s .pre .0 .gains-long) (c .before .before .before .before .before .before .before .before .load .ensures) in
+    (record { few = s .pre .0 .few; gains-long = search needs; rests-long = search needs }, shared-fits _ _ _ _ _ _ _ _ loaded (c .before .before .before .before .run-rounds .ensures) (s .pre .1) (s .pre .2))
 
 same-length : tie.Need-same-length
 same-length c = search needs
@@ -27,8 +27,9 @@ returns : tie.Need-returns
 returns c =
     let s = c .before .before .before .before .before .before .before .before .before .before .before .before .before .before .before in
     let a = s .args in
-    let loaded = share-caps (a .share) (a .dots) (a .lines .now) (a .gains .now) _ (s .pre .0) (c .before .before .before .before .before .before .before .before .before .before .before .load .ensures) in
-    shared _ _ _ _ _ _ _ _ loaded (c .before .before .before .before .before .before .before .run-rounds .ensures) _ (c .before .before .collect .ensures)
+    let loaded = share-caps (a .share) (a .dots) (a .lines .now) (a .gains .now) _ (s .pre .0 .gains-long) (c .before .before .before .before .before .before .before .before .before .before .before .load .ensures) in
+    let all = shared _ _ _ _ _ _ _ _ loaded (c .before .before .before .before .before .before .before .run-rounds .ensures) _ (c .before .before .collect .ensures) in
+    (all .0, all .2)
 
 pub share-out-spec : {M : Type 1} → statement M
 share-out-spec =

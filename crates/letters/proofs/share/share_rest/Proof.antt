@@ -26,7 +26,7 @@ returns : tie.Need-returns
 returns c =
     let a = c .before .before .before .before .before .before .before .before .before .before .before .before .before .before .before .before .before .before .args in
     let loaded = c .before .before .before .before .before .before .before .before .before .before .before .before .before .load-rest .ensures in
-    rest-shared (letterOf (a .letter)) (a .narrow) (a .dots) (linesOf (a .lines .now)) (a .gains .now) _ _ _ _ _ _ (loaded .0) (loaded .1) (c .before .before .before .before .before .before .before .run-rounds .ensures) (c .before .before .take-off .ensures)
+    rest-shared (letterOf (a .letter)) (a .takers-only) (a .dots) (linesOf (a .lines .now)) (a .gains .now) _ _ _ _ _ _ (loaded .0) (loaded .1) (c .before .before .before .before .before .before .before .run-rounds .ensures) (c .before .before .take-off .ensures)
 
 pub share-rest-spec : {M : Type 1} → statement M
 share-rest-spec =

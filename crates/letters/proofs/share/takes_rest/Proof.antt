@@ -3,7 +3,7 @@ use borrow.Author.Needs.{needs}
 use Rattle.letters.proofs.share.takes_rest.Statement.{statement}
 use mathlib.Core.Path.{ap₂, _∙_}
 use mathlib.Core.Bool.{Bool, not, _&&_, _||_}
-use Rattle.letters.proofs.Grown.{rest-of-narrow, rest-of-all}
+use Rattle.letters.proofs.Grown.{rest-of-takersOnly, rest-of-all}
 use Rattle.letters.proofs.share.takes_rest.Tie as tie
 
 affected-requires : tie.Need-affected-requires
@@ -15,14 +15,14 @@ takes-requires c κs = search needs
 returns : tie.Need-returns
 returns c =
     let a = c .before .before .before .args in
-    rest-of-narrow (c .before .before .affected .result) (c .before .takes .result) (a .narrow) (c .if1 .taken)
-    ∙ ap₂ (λ (affected takes : Bool). affected && (takes || not (a .narrow))) (c .before .before .affected .ensures) (c .before .takes .ensures)
+    rest-of-takersOnly (c .before .before .affected .result) (c .before .takes .result) (a .takers-only) (c .if1 .taken)
+    ∙ ap₂ (λ (affected takes : Bool). affected && (takes || not (a .takers-only))) (c .before .before .affected .ensures) (c .before .takes .ensures)
 
 returns-2 : tie.Need-returns-2
 returns-2 c =
     let a = c .before .before .before .args in
-    rest-of-all (c .before .before .affected .result) (c .before .takes .result) (a .narrow) (c .if1 .left)
-    ∙ ap₂ (λ (affected takes : Bool). affected && (takes || not (a .narrow))) (c .before .before .affected .ensures) (c .before .takes .ensures)
+    rest-of-all (c .before .before .affected .result) (c .before .takes .result) (a .takers-only) (c .if1 .left)
+    ∙ ap₂ (λ (affected takes : Bool). affected && (takes || not (a .takers-only))) (c .before .before .affected .ensures) (c .before .takes .ensures)
 
 pub takes-rest-spec : {M : Type 1} → statement M
 takes-rest-spec = tie.close (tie.spec affected-requires takes-requires returns returns-2)

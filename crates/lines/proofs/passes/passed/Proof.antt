@@ -42,16 +42,16 @@ returns-2 : tie.Need-returns-2
 returns-2 c =
     let row = c .before .before .before .before .before .args .row in
     c .with-sizes .ensures
-    ∙ ap (λ (n : ℕ). line (lineOf row .track) (c .before .before .before .before .of-row .result .base) (UpTo n) (c .before .before .before .before .of-row .result .grows)) (c .before .before .before .limit-size .ensures)
-    ∙ ap (λ (l : Line). line (lineOf row .track) (l .base) (UpTo (limitSize l)) (l .grows)) (c .before .before .before .before .of-row .ensures)
+    ∙ ap (λ (n : ℕ). line (lineOf row .track) (c .before .before .before .before .of-row .result .base) (UpTo n) (c .before .before .before .before .of-row .result .growable)) (c .before .before .before .limit-size .ensures)
+    ∙ ap (λ (l : Line). line (lineOf row .track) (l .base) (UpTo (limitSize l)) (l .growable)) (c .before .before .before .before .of-row .ensures)
     ∙ ap (λ (p : Pass). passOf p (lineOf row)) (sym (c .before .enum-told2 .given .1))
 
 returns-3 : tie.Need-returns-3
 returns-3 c =
     let row = c .before .before .before .before .before .args .row in
     c .with-sizes2 .ensures
-    ∙ ap (λ (n : ℕ). line (lineOf row .track) n (c .before .before .before .before .of-row .result .limit) (c .before .before .before .before .of-row .result .grows)) (c .before .before .before .limit-size .ensures)
-    ∙ ap (λ (l : Line). line (lineOf row .track) (limitSize l) (l .limit) (l .grows)) (c .before .before .before .before .of-row .ensures)
+    ∙ ap (λ (n : ℕ). line (lineOf row .track) n (c .before .before .before .before .of-row .result .limit) (c .before .before .before .before .of-row .result .growable)) (c .before .before .before .limit-size .ensures)
+    ∙ ap (λ (l : Line). line (lineOf row .track) (limitSize l) (l .limit) (l .growable)) (c .before .before .before .before .of-row .ensures)
     ∙ ap (λ (p : Pass). passOf p (lineOf row)) (sym (c .before .enum-told3 .given .1))
 
 pub passed-spec : {M : Type 1} → statement M

@@ -22,8 +22,8 @@ returns : tie.Need-returns
 returns c =
     let row = c .before .before .before .args .row in
     c .with-sizes .ensures
-    ∙ ap (λ (m : Limit). line (lineOf row .track) (c .before .before .of-row .result .base) m (c .before .before .of-row .result .grows)) (c .before .at-least .ensures)
-    ∙ ap (λ (l : Line). settled (line (lineOf row .track) (l .base) (l .limit) (l .grows))) (c .before .before .of-row .ensures)
+    ∙ ap (λ (m : Limit). line (lineOf row .track) (c .before .before .of-row .result .base) m (c .before .before .of-row .result .growable)) (c .before .at-least .ensures)
+    ∙ ap (λ (l : Line). settled (line (lineOf row .track) (l .base) (l .limit) (l .growable))) (c .before .before .of-row .ensures)
 
 pub settled-spec : {M : Type 1} → statement M
 settled-spec = tie.close (tie.spec of-row-requires at-least-requires with-sizes-requires returns)

@@ -16,7 +16,7 @@ enum-known-answer c = search needs
 put-board-requires : tie.Need-put-board-requires
 put-board-requires c κs =
     let entry = c .before .before .before .before .before in
-    let within = subst (λ (a : BoardAnswer). TracksWithin (boardTold a) (entry .args .places .now)) (c .before .before .answer .given .1) (entry .pre .0) in
+    let within = subst (λ (a : BoardAnswer). TracksWithin (boardTold a) (entry .args .sizes .now)) (c .before .before .answer .given .1) (entry .pre .0) in
     (within, omega (arith, entry .pre .1))
 
 enum-known-answer-2 : tie.Need-enum-known-answer-2
@@ -37,8 +37,8 @@ same-length c = search needs
 returns : tie.Need-returns
 returns c =
     let entry = c .before .before .before .before .before .before .before .before in
-    let within = subst (λ (a : BoardAnswer). TracksWithin (boardTold a) (entry .args .places .now)) (c .before .before .before .before .before .answer .given .1) (entry .pre .0) in
-    putting-as (omega arith) (ap (λ (a : BoardAnswer). answerText (boardTold a) (entry .args .places .now)) (sym (c .before .before .before .before .before .answer .given .1))) (c .before .before .put-board .ensures)
+    let within = subst (λ (a : BoardAnswer). TracksWithin (boardTold a) (entry .args .sizes .now)) (c .before .before .before .before .before .answer .given .1) (entry .pre .0) in
+    putting-as (omega arith) (ap (λ (a : BoardAnswer). answerText (boardTold a) (entry .args .sizes .now)) (sym (c .before .before .before .before .before .answer .given .1))) (c .before .before .put-board .ensures)
 
 same-length-2 : tie.Need-same-length-2
 same-length-2 c = search needs
@@ -46,7 +46,7 @@ same-length-2 c = search needs
 returns-2 : tie.Need-returns-2
 returns-2 c =
     let entry = c .before .before .before .before .before .before .before .before .before .before in
-    putting-as (omega arith) (ap₂ refusalLine (c .before .before .before .before .before .number .ensures) (c .before .before .before .before .place .ensures) ∙ ap (λ (a : BoardAnswer). answerText (boardTold a) (entry .args .places .now)) (sym (c .before .before .before .before .before .before .before .answer2 .given .1))) (c .before .before .put-refusal .ensures)
+    putting-as (omega arith) (ap₂ refusalLine (c .before .before .before .before .before .number .ensures) (c .before .before .before .before .place .ensures) ∙ ap (λ (a : BoardAnswer). answerText (boardTold a) (entry .args .sizes .now)) (sym (c .before .before .before .before .before .before .before .answer2 .given .1))) (c .before .before .put-refusal .ensures)
 
 pub put-answer-spec : {M : Type 1} → statement M
 put-answer-spec =

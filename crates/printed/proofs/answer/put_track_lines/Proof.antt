@@ -12,10 +12,10 @@ use Rattle.printed.proofs.answer.put_track_lines.Statement.{statement}
 use Rattle.printed.proofs.answer.put_track_lines.Tie as tie
 
 abbrev Inv-loop : tie.InvT-loop
-Inv-loop at tracks places into₀ next₀ t₀ into next t = (t ≤ tracks) × Putting (63 * t) at (trackLines 0 (take t places)) into₀ into next
+Inv-loop at tracks sizes into₀ next₀ t₀ into next t = (t ≤ tracks) × Putting (63 * t) at (trackLines 0 (take t sizes)) into₀ into next
 
 abbrev μ-loop : tie.MeasureT-loop
-μ-loop at tracks places into₀ next₀ t₀ into next t = tracks - t
+μ-loop at tracks sizes into₀ next₀ t₀ into next t = tracks - t
 
 loop-holds : tie.Need-loop-holds Inv-loop μ-loop
 unfolding trackLines
@@ -44,7 +44,7 @@ loop-again : tie.Need-loop-again Inv-loop μ-loop
 loop-again c =
     let at = c .before .before .before .before .before .before .loop in
     let entry = c .before .before .before .before .before .before .before .before in
-    (omega arith, putting-as (omega arith) (lines-turn (entry .args .places .now) (at .t) (omega (arith, entry .pre .0))) (putting-then (omega (arith, entry .pre .1)) (at .inv .1) (c .before .before .put-track-line .ensures)))
+    (omega arith, putting-as (omega arith) (lines-turn (entry .args .sizes .now) (at .t) (omega (arith, entry .pre .0))) (putting-then (omega (arith, entry .pre .1)) (at .inv .1) (c .before .before .put-track-line .ensures)))
 
 same-length : tie.Need-same-length Inv-loop μ-loop
 same-length c = c .before .loop .inv .1 .kept
@@ -54,7 +54,7 @@ returns c =
     let at = c .before .loop in
     let args = c .before .before .before .args in
     let all : at .t ≡ args .tracks = omega arith in
-    putting-as (omega arith) (ap (λ (n : ℕ). trackLines 0 (take n (args .places .now))) all) (at .inv .1)
+    putting-as (omega arith) (ap (λ (n : ℕ). trackLines 0 (take n (args .sizes .now))) all) (at .inv .1)
 
 pub put-track-lines-spec : {M : Type 1} → statement M
 put-track-lines-spec =

@@ -1,19 +1,19 @@
 -- `given` says which use a tag has for its number: each listed tag in its turn. Assumes nothing.
 use borrow.Author.Tests.{ne-eqb}
-use Rattle.records.specs.Rule.{isIn}
+use Rattle.laws.specs.Lists.{among}
 use Rattle.records.proofs.tags.given.Statement.{statement}
 use Rattle.records.proofs.tags.given.Tie as tie
 
 returns : tie.Need-returns
-unfolding isIn
+unfolding among
 returns c = rw (c .if1 .taken)
 
 returns-2 : tie.Need-returns-2
-unfolding isIn
+unfolding among
 returns-2 c = rw (c .if2 .taken)
 
 returns-3 : tie.Need-returns-3
-unfolding isIn
+unfolding among
 returns-3 c = simp (ne-eqb _ _ (c .before .if1 .left), ne-eqb _ _ (c .if2 .left))
 
 pub given-spec : {M : Type 1} → statement M

@@ -6,12 +6,13 @@ use Prim.Native.Nat.{ℕ, zero, suc}
 use native.Mathlib.Omega.{arith}
 use lib.Dec.{ltb}
 use borrow.Author.Tests.{le-ltb, ne-eqb}
-use Rattle.records.specs.Rule.{stretchBytes, isIn, unless, fault}
+use Rattle.laws.specs.Lists.{among}
+use Rattle.records.specs.Rule.{stretchBytes, unless, fault}
 use Rattle.records.proofs.tags.stretch_fault.Statement.{statement}
 use Rattle.records.proofs.tags.stretch_fault.Tie as tie
 
-below-two-is-listed : (byte : ℕ) → ltb byte 2 ≡ isIn byte stretchBytes
-unfolding isIn
+below-two-is-listed : (byte : ℕ) → ltb byte 2 ≡ among stretchBytes byte
+unfolding among
 below-two-is-listed zero = refl
 below-two-is-listed (suc zero) = refl
 below-two-is-listed (suc (suc n)) =

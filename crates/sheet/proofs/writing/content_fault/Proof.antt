@@ -5,7 +5,7 @@ use Prim.Native.Nat.{_≤_}
 use native.Mathlib.Omega.{arith}
 use lib.ListN.{length}
 use Rattle.rounds.specs.Rule.{mostTracks}
-use Rattle.records.proofs.Firsts.{le-of-count-fine}
+use Rattle.records.proofs.Counts.{le-of-count-fine}
 use Rattle.sheet.specs.Rule.{tracksAt, fine, recordSize}
 use Rattle.sheet.specs.Content.{tracksFault, itemsFault, ItemsLooked}
 use Rattle.sheet.proofs.Looks.{first-of-found, fine-of-passed, never-of-found, first-of-fine}

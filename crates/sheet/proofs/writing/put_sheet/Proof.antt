@@ -4,8 +4,9 @@ use mathlib.Core.Path.{_≡_, ap, _∙_}
 use Prim.Native.Nat.{ℕ}
 use lib.ListN.{length}
 use Rattle.laws.specs.Put.{put}
+use Rattle.laws.specs.Faults.{fine-both}
 use Rattle.rounds.specs.Rule.{mostTracks}
-use Rattle.records.proofs.Firsts.{fine-both, le-of-count-fine}
+use Rattle.records.proofs.Counts.{le-of-count-fine}
 use Rattle.rows.proofs.KindRows.{space-fine}
 use Rattle.sheet.specs.Rule.{Row, tracksAt, spaceRecord, itemRecord, rowFault, rowBytes, fine, recordSize}
 use Rattle.sheet.specs.Content.{tracksFault, itemsFault, itemsAfter, sectionBytes}

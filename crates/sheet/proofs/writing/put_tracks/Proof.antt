@@ -6,7 +6,7 @@ use native.Mathlib.Omega.{arith}
 use lib.ListN.{length}
 use Rattle.laws.specs.Put.{put-then}
 use Rattle.rounds.specs.Rule.{mostTracks}
-use Rattle.records.proofs.Firsts.{le-of-count-fine}
+use Rattle.records.proofs.Counts.{le-of-count-fine}
 use Rattle.sheet.specs.Rule.{tracksAt, trackRecord, rowsBytes, twoBytes, fine, recordSize}
 use Rattle.sheet.specs.Content.{rowsFault}
 use Rattle.sheet.proofs.writing.put_tracks.Statement.{statement}

@@ -16,25 +16,25 @@ use Rattle.sizing.proofs.dots.maximise.Tie as tie
 enum-known-constraint : tie.Need-enum-known-constraint
 enum-known-constraint c = search needs
 
-present-total-requires : tie.Need-present-total-requires
-present-total-requires c κs = search needs
+base-total-requires : tie.Need-base-total-requires
+base-total-requires c κs = search needs
 
 beyond-requires : tie.Need-beyond-requires
 beyond-requires c κs = search needs
 
-fill-lines-requires : tie.Need-fill-lines-requires
-fill-lines-requires c κs =
+fill-bases-requires : tie.Need-fill-bases-requires
+fill-bases-requires c κs =
     let s = c .before .before .before .before .before .before .before .before .before .before .before in
     let n : constraintNumber (s .args .constraint) ≡ c .before .before .before .before .before .before .before .constraint .given .0 .0 = ap constraintNumber (c .before .before .before .before .before .before .before .constraint .given .1) in
     let limit = s .pre .1 in
     let free = c .before .before .before .beyond .ensures in
-    (s .pre .0, omega arith, s .pre .2, s .pre .3, s .pre .4)
+    (s .pre .0, omega arith)
 
 enum-told : tie.Need-enum-told
 enum-told c = search needs
 
-fill-lines-requires-2 : tie.Need-fill-lines-requires-2
-fill-lines-requires-2 c κs = search needs
+fill-bases-requires-2 : tie.Need-fill-bases-requires-2
+fill-bases-requires-2 c κs = search needs
 
 enum-told-2 : tie.Need-enum-told-2
 enum-told-2 c = search needs
@@ -55,8 +55,8 @@ returns : tie.Need-returns
 returns c =
     let s = c .before .before .before .before .before .before .before .before .before .before .before .before .before .before .before .before .before in
     let rows = s .args .lines .now in
-    let filled = c .before .before .before .before .before .fill-lines .ensures in (
-      maximise-definite rows _ (s .pre .3) _ _ _ (c .before .before .before .before .before .before .before .before .before .before .present-total .ensures) (c .before .before .before .before .before .before .before .before .before .beyond .ensures) _ _ (filled .0) (filled .1) ∙ ap (λ (k : Constraint). maximise k (linesOf rows)) (sym (c .before .before .before .before .before .before .before .before .before .before .before .before .before .constraint .given .1)),
+    let filled = c .before .before .before .before .before .fill-bases .ensures in (
+      maximise-definite rows _ (s .pre .0 .none) _ _ _ (c .before .before .before .before .before .before .before .before .before .before .base-total .ensures) (c .before .before .before .before .before .before .before .before .before .beyond .ensures) _ _ (filled .0) (filled .1) ∙ ap (λ (k : Constraint). maximise k (linesOf rows)) (sym (c .before .before .before .before .before .before .before .before .before .before .before .before .before .constraint .given .1)),
       filled .2,
     )
 
@@ -73,8 +73,8 @@ returns-2 : tie.Need-returns-2
 returns-2 c =
     let s = c .before .before .before .before .before .before .before .before .before .before .before .before .before in
     let rows = s .args .lines .now in
-    let filled = c .before .before .before .before .before .fill-lines2 .ensures in (
-      maximise-min-content rows _ (s .pre .3) _ _ (filled .0) (filled .1) ∙ ap (λ (k : Constraint). maximise k (linesOf rows)) (sym (c .before .before .before .before .before .before .before .before .before .enum-told .given .1)),
+    let filled = c .before .before .before .before .before .fill-bases2 .ensures in (
+      maximise-min-content rows _ (s .pre .0 .none) _ _ (filled .0) (filled .1) ∙ ap (λ (k : Constraint). maximise k (linesOf rows)) (sym (c .before .before .before .before .before .before .before .before .before .enum-told .given .1)),
       filled .2,
     )
 
@@ -87,7 +87,7 @@ returns-3 c =
     let s = c .before .before .before .before .before .before .before in
     let rows = s .args .lines .now in (
       ap (λ (ls : List Line). maximised ls 0) (c .before .pass-over .ensures) ∙ ap (λ (k : Constraint). maximise k (linesOf rows)) (sym (c .before .before .before .enum-told2 .given .1)),
-      s .pre .3,
+      s .pre .0 .none,
     )
 
 pub maximise-spec : {M : Type 1} → statement M
@@ -95,11 +95,11 @@ maximise-spec =
     tie.close
     (tie.spec
     enum-known-constraint
-    present-total-requires
+    base-total-requires
     beyond-requires
-    fill-lines-requires
+    fill-bases-requires
     enum-told
-    fill-lines-requires-2
+    fill-bases-requires-2
     enum-told-2
     pass-over-requires
     same-length

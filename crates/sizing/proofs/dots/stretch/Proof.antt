@@ -18,19 +18,19 @@ returns c = let s = c .before .before .before in stretch-not-asked (s .args .ask
 enum-known-expansion : tie.Need-enum-known-expansion
 enum-known-expansion c = search needs
 
-present-total-requires : tie.Need-present-total-requires
-present-total-requires c κs = search needs
+base-total-requires : tie.Need-base-total-requires
+base-total-requires c κs = search needs
 
 beyond-requires : tie.Need-beyond-requires
 beyond-requires c κs = search needs
 
-fill-lines-requires : tie.Need-fill-lines-requires
-fill-lines-requires c κs =
+fill-bases-requires : tie.Need-fill-bases-requires
+fill-bases-requires c κs =
     let s = c .before .before .before .before .before .before .before .before .before .before .before .before in
     let n : constraintNumber (s .args .expansion) ≡ c .before .before .before .before .before .before .before .expansion .given .0 .0 = ap constraintNumber (c .before .before .before .before .before .before .before .expansion .given .1) in
     let limit = s .pre .1 in
     let free = c .before .before .before .beyond .ensures in
-    (s .pre .0, omega arith, s .pre .2, s .pre .3, s .pre .4)
+    (s .pre .0, omega arith)
 
 enum-told : tie.Need-enum-told
 enum-told c = search needs
@@ -51,7 +51,7 @@ returns-2 : tie.Need-returns-2
 returns-2 c =
     let s = c .before .before .before .before .before .before .before .before .before .before .before .before .before .before .before .before .before .before in
     let rows = s .args .lines .now in
-    stretch-definite rows _ (s .pre .3) _ _ _ (c .before .before .before .before .before .before .before .before .before .before .present-total .ensures) (c .before .before .before .before .before .before .before .before .before .beyond .ensures) _ (c .before .before .before .before .before .fill-lines .ensures .0)
+    stretch-definite rows _ (s .pre .0 .none) _ _ _ (c .before .before .before .before .before .before .before .before .before .before .base-total .ensures) (c .before .before .before .before .before .before .before .before .before .beyond .ensures) _ (c .before .before .before .before .before .fill-bases .ensures .0)
     ∙ ap₂ (λ (asked : Bool) (e : Constraint). stretched asked e (linesOf rows)) (sym (not-false _ (c .before .before .before .before .before .before .before .before .before .before .before .before .before .before .before .if1 .left))) (sym (c .before .before .before .before .before .before .before .before .before .before .before .before .before .expansion .given .1))
 
 returns-3 : tie.Need-returns-3
@@ -72,9 +72,9 @@ stretch-spec =
     (tie.spec
     returns
     enum-known-expansion
-    present-total-requires
+    base-total-requires
     beyond-requires
-    fill-lines-requires
+    fill-bases-requires
     enum-told
     enum-told-2
     same-length

@@ -8,8 +8,8 @@ use Rattle.sizing.proofs.finish.free_of.Tie as tie
 enum-known-expansion : tie.Need-enum-known-expansion
 enum-known-expansion c = search needs
 
-present-total-requires : tie.Need-present-total-requires
-present-total-requires c κs = search needs
+base-total-requires : tie.Need-base-total-requires
+base-total-requires c κs = search needs
 
 cast-difference : tie.Need-cast-difference
 cast-difference c = search needs
@@ -17,7 +17,7 @@ cast-difference c = search needs
 difference-requires : tie.Need-difference-requires
 difference-requires c κs =
     let s = c .before .before .before .before in
-    free-asked (s .args .expansion) _ _ (linesOf (s .args .lines .now)) (c .before .before .expansion .given .1) (c .present-total .ensures) (s .pre .1) (s .pre .2)
+    free-asked (s .args .expansion) _ _ (linesOf (s .args .lines .now)) (c .before .before .expansion .given .1) (c .base-total .ensures) (s .pre .1) (s .pre .2)
 
 enum-told : tie.Need-enum-told
 enum-told c = search needs
@@ -28,7 +28,7 @@ enum-told-2 c = search needs
 returns : tie.Need-returns
 returns c =
     let s = c .before .before .before .before .before in
-    free-told (s .args .expansion) _ _ (linesOf (s .args .lines .now)) (c .before .before .before .expansion .given .1) (c .before .present-total .ensures) _ (s .pre .1) (s .pre .2) (c .difference .ensures)
+    free-told (s .args .expansion) _ _ (linesOf (s .args .lines .now)) (c .before .before .before .expansion .given .1) (c .before .base-total .ensures) _ (s .pre .1) (s .pre .2) (c .difference .ensures)
 
 returns-2 : tie.Need-returns-2
 returns-2 c = search needs
@@ -41,7 +41,7 @@ free-of-spec =
     tie.close
     (tie.spec
     enum-known-expansion
-    present-total-requires
+    base-total-requires
     cast-difference
     difference-requires
     enum-told

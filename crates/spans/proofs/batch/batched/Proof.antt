@@ -16,10 +16,9 @@ returns : tie.Need-returns
 returns c =
     let s = c .before .before .before .before .before in
     let a = s .args in
-    let w = s .pre .0 in
     let long = s .pre .1 .long in
     let k : length (a .nexts .now) ≤ a .first = search needs in
-    (batch-of-none (a .constraint) (chained (a .items .now) (a .nexts .now) (a .first)) (linesOf (a .lines .now)) (chained-end (a .items .now) (a .nexts .now) (a .first) k), w .fit, w .none, w .totals, s .pre .3)
+    (batch-of-none (a .constraint) (chained (a .items .now) (a .nexts .now) (a .first)) (linesOf (a .lines .now)) (chained-end (a .items .now) (a .nexts .now) (a .first) k), s .pre .0, s .pre .3)
 
 raise-all-requires : tie.Need-raise-all-requires
 raise-all-requires c κs =
@@ -50,8 +49,6 @@ returns-2 c =
     let q = s .pre .2 k in (
       batch-of-steps (a .constraint) (chained (a .items .now) (a .nexts .now) (a .first)) (q .0) (q .1) (linesOf (a .lines .now)) _ (q .2) (e .0),
       e .1,
-      e .2,
-      e .3,
       subst Calm (sym (e .0)) (batch-calm (a .constraint) (chained (a .items .now) (a .nexts .now) (a .first)) (linesOf (a .lines .now)) (s .pre .3)),
     )
 

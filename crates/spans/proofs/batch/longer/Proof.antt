@@ -4,15 +4,15 @@ use Rattle.spans.proofs.batch.longer.Statement.{statement}
 use mathlib.Core.Path.{_≡_, refl, ap, sym, _∙_}
 use Prim.Native.Nat.{ℕ, suc, _+_, _-_, _≤_, _<_}
 use native.Mathlib.Omega.{arith}
-use lib.ListN.{length, getD, replicate, length-replicate}
+use lib.ListN.{length, getD, length-replicate}
 use Rattle.laws.specs.Lists.{inTurn, upFrom}
 use Rattle.lines.specs.Rule.{batched}
 use Rattle.lines.specs.Rows.{linesOf}
-use Rattle.lines.specs.Chains.{chained}
+use Rattle.lines.specs.Chains.{chained, batches}
 use Rattle.spans.specs.Work.{Working, Calm}
 use Rattle.spans.proofs.Parts.{up-turn, up-end}
 use Rattle.spans.proofs.Planned.{sums-long}
-use Rattle.spans.proofs.Raised.{working-after, chain-fits-as}
+use Rattle.spans.proofs.Raised.{chain-fits-as}
 use Rattle.spans.proofs.batch.longer.Tie as tie
 
 abbrev Inv-loop : tie.InvT-loop
@@ -32,7 +32,7 @@ loop-holds c =
     let s = c .before .before .before .before .before in
     let a = s .args in
     let n : length (a .lines .now) + 1 - 2 ≡ length (a .lines .now) - 1 = omega arith in
-    (s .pre .0, refl, search needs, ap (λ (m : ℕ). inTurn (λ (j : ℕ). batched (a .constraint) (chained (a .items .now) (a .nexts .now) (getD (a .heads .now) j 0))) (upFrom 2 m) (linesOf (a .lines .now))) n, s .pre .3)
+    (s .pre .0, refl, search needs, ap (λ (m : ℕ). inTurn (λ (j : ℕ). batched (a .constraint) (chained (a .items .now) (a .nexts .now) (getD (a .heads .now) j 0))) (upFrom 2 m) (linesOf (a .lines .now))) n, s .pre .2)
 
 mul-batched : tie.Need-mul-batched Inv-loop μ-loop
 mul-batched c = search needs
@@ -40,7 +40,8 @@ mul-batched c = search needs
 shared-slice-read-batched : tie.Need-shared-slice-read-batched Inv-loop μ-loop
 shared-slice-read-batched c =
     let s = c .before .before .before .before .before .before .before .before in
-    let few = s .pre .1 in
+    let few = s .pre .0 .few in
+    let all = s .pre .1 .heads-long in
     let same = c .before .before .loop .inv .1 in
     search needs
 
@@ -53,8 +54,8 @@ batched-requires c κs =
     let two = h .inv .2 in
     let low : 0 < h .k = omega arith in
     let high : h .k ≤ length (a .lines .now) = search needs in
-    let f = s .pre .2 (h .k) low high in
-    (h .inv .0, chain-fits-as (a .items .now) (a .nexts .now) (getD (a .heads .now) (h .k) 0) same (f .0), f .1, h .inv .4)
+    let below : h .k < batches = omega (arith, s .pre .0 .few) in
+    (h .inv .0, chain-fits-as (a .items .now) (a .nexts .now) (getD (a .heads .now) (h .k) 0) same (s .pre .1 .fits (h .k) low below), s .pre .1 .whole (h .k) low below, h .inv .4)
 
 add-k : tie.Need-add-k Inv-loop μ-loop
 add-k c = search needs
@@ -71,11 +72,11 @@ loop-again c =
     let same = h .inv .1 in
     let high : h .k ≤ length (a .lines .now) = search needs in
     let n : length (a .lines .now) + 1 - h .k ≡ suc (length (a .lines .now) + 1 - (h .k + 1)) = omega arith in (
-      working-after (h .inv .0) (search needs) (search needs) (search needs) (e .1) (e .2) (e .3),
+      e .1,
       search needs,
       search needs,
       up-turn (λ (j : ℕ). batched (a .constraint) (chained (a .items .now) (a .nexts .now) (getD (a .heads .now) j 0))) (h .k) (length (a .lines .now) + 1 - h .k) (length (a .lines .now) + 1 - (h .k + 1)) (linesOf (h .lines)) _ _ n (h .inv .3) (e .0),
-      e .4,
+      e .2,
     )
 
 same-length : tie.Need-same-length Inv-loop μ-loop
@@ -104,13 +105,9 @@ returns c =
     let s = c .before .before .before .before .before .before .before in
     let a = s .args in
     let h = c .before .loop in
-    let w = h .inv .0 in
-    let same = h .inv .1 in
     let out : length (a .lines .now) < h .k = search needs in (
       up-end (λ (j : ℕ). batched (a .constraint) (chained (a .items .now) (a .nexts .now) (getD (a .heads .now) j 0))) (h .k) (length (a .lines .now) + 1 - h .k) (linesOf (h .lines)) _ (omega arith) (h .inv .3),
-      w .fit,
-      w .none ∙ ap (λ (n : ℕ). replicate n 0) same,
-      w .totals,
+      h .inv .0,
       h .inv .4,
     )
 

@@ -30,7 +30,7 @@ abbrev μ-loop : tie.MeasureT-loop
 loop-holds : tie.Need-loop-holds Inv-loop μ-loop
 loop-holds c =
     let s = c .before .before .before .before in
-    (s .pre .1, s .pre .2, s .pre .3, s .pre .5 .fit, refl, λ _. refl)
+    (s .pre .0 .increases-long, s .pre .0 .gains-long, s .pre .0 .rests-long, s .pre .1 .fit, refl, λ _. refl)
 
 mul-plan-part : tie.Need-mul-plan-part Inv-loop μ-loop
 mul-plan-part c = search needs
@@ -42,26 +42,28 @@ plan-part-requires : tie.Need-plan-part-requires Inv-loop μ-loop
 plan-part-requires c κs =
     let s = c .before .before .before .before .before .before .before .before .before .before in
     let h = c .before .before .before .before .before .loop in
-    let f = s .pre .5 in
+    let f = s .pre .1 in
     let long = f .long in
-    let k : h .i < length (s .args .nexts .now) = search needs in
-    (s .pre .0, h .inv .0, h .inv .1, h .inv .2, s .pre .4, all-part (s .args .items .now) (s .args .nexts .now) (h .i) (f .rising) k (MeasuredFits (length (s .args .lines .now))) (h .inv .3), s .pre .6)
+    let k : h .i < length (s .args .nexts .now) = search needs in (
+      record { few = s .pre .0 .few; fit = s .pre .0 .fit; increases-long = h .inv .0; gains-long = h .inv .1; rests-long = h .inv .2; totals = s .pre .0 .totals },
+      all-part (s .args .items .now) (s .args .nexts .now) (h .i) (f .rising) k (MeasuredFits (length (s .args .lines .now))) (h .inv .3),
+    )
 
 mul-i : tie.Need-mul-i Inv-loop μ-loop
 mul-i c =
-    let long = c .before .before .before .before .before .before .before .before .before .before .before .before .before .before .before .before .before .pre .5 .long in
+    let long = c .before .before .before .before .before .before .before .before .before .before .before .before .before .before .before .before .before .pre .1 .long in
     search needs
 
 shared-slice-read-i : tie.Need-shared-slice-read-i Inv-loop μ-loop
 shared-slice-read-i c =
-    let long = c .before .before .before .before .before .before .before .before .before .before .before .before .before .before .before .before .before .before .pre .5 .long in
+    let long = c .before .before .before .before .before .before .before .before .before .before .before .before .before .before .before .before .before .before .pre .1 .long in
     search needs
 
 loop-less : tie.Need-loop-less Inv-loop μ-loop
 loop-less c =
     let s = c .before .before .before .before .before .before .before .before .before .before .before .before .before .before .before .before .before .before in
     let h = c .before .before .before .before .before .before .before .before .before .before .before .before .before .loop in
-    let f = s .pre .5 in
+    let f = s .pre .1 in
     let long = f .long in
     let k : h .i < length (s .args .nexts .now) = search needs in
     let up = f .rising (h .i) k in
@@ -71,15 +73,15 @@ loop-again : tie.Need-loop-again Inv-loop μ-loop
 loop-again c =
     let s = c .before .before .before .before .before .before .before .before .before .before .before .before .before .before .before .before .before .before in
     let h = c .before .before .before .before .before .before .before .before .before .before .before .before .before .loop in
-    let f = s .pre .5 in
+    let f = s .pre .1 in
     let long = f .long in
     let k : h .i < length (s .args .nexts .now) = search needs in (
       search needs,
       search needs,
       search needs,
       all-rest (s .args .items .now) (s .args .nexts .now) (h .i) (f .rising) k (MeasuredFits (length (s .args .lines .now))) (h .inv .3),
-      walk-turn (s .args .items .now) (s .args .nexts .now) (h .i) (f .rising) k (increasedBy (letterOf (s .args .letter)) (s .args .constraint) (linesOf (s .args .lines .now))) (h .increases) _ _ (h .inv .4) (c .before .before .before .before .before .before .before .plan-part .ensures .0),
-      λ e. let n = or-neither _ _ e in c .before .before .before .before .before .before .before .plan-part .ensures .1 (n .1) ∙ h .inv .5 (n .0),
+      walk-turn (s .args .items .now) (s .args .nexts .now) (h .i) (f .rising) k (increasedBy (letterOf (s .args .letter)) (s .args .constraint) (linesOf (s .args .lines .now))) (h .increases) _ _ (h .inv .4) (c .before .before .before .before .before .before .before .plan-part .ensures .laid),
+      λ e. let n = or-neither _ _ e in c .before .before .before .before .before .before .before .plan-part .ensures .nothing (n .1) ∙ h .inv .5 (n .0),
     )
 
 same-length : tie.Need-same-length Inv-loop μ-loop
@@ -95,8 +97,11 @@ returns : tie.Need-returns Inv-loop μ-loop
 returns c =
     let s = c .before .before .before .before .before .before in
     let h = c .before .loop in
-    let long = s .pre .5 .long in
-    (walk-end (s .args .items .now) (s .args .nexts .now) (h .i) (increasedBy (letterOf (s .args .letter)) (s .args .constraint) (linesOf (s .args .lines .now))) (h .increases) _ (search needs) (h .inv .4), h .inv .5)
+    let long = s .pre .1 .long in
+    record {
+      laid = walk-end (s .args .items .now) (s .args .nexts .now) (h .i) (increasedBy (letterOf (s .args .letter)) (s .args .constraint) (linesOf (s .args .lines .now))) (h .increases) _ (search needs) (h .inv .4);
+      nothing = h .inv .5;
+    }
 
 pub plan-batch-spec : {M : Type 1} → statement M
 plan-batch-spec =

@@ -6,6 +6,7 @@ use mathlib.Core.Bool.{true≢false}
 use borrow.Author.Tests.{not-true}
 use native.Mathlib.Omega.{arith}
 use lib.Seq.{length-take-le}
+use Rattle.laws.specs.Lists.{inTurn}
 use Rattle.spans.proofs.Planned.{length-between, between-few, between-fits, extra-few, laid-over, gains-long, sums-long, spanned-rises, spanned-total, asks-nothing, affects-nothing}
 use Rattle.spans.proofs.batch.plan_item.Tie as tie
 
@@ -36,8 +37,8 @@ mul-total-between c = search needs
 shared-slice-copy-out-total-between : tie.Need-shared-slice-copy-out-total-between
 shared-slice-copy-out-total-between c =
     let a = c .before .before .before .before .before .before in
-    let long = sums-long (a .args .lines .now) (a .args .sums .now) (a .pre .6) in
-    let within = a .pre .5 .within in
+    let long = sums-long (a .args .lines .now) (a .args .sums .now) (a .pre .0 .totals) in
+    let within = a .pre .1 .within in
     search needs
 
 mul-total-between-2 : tie.Need-mul-total-between-2
@@ -46,36 +47,38 @@ mul-total-between-2 c = search needs
 shared-slice-copy-out-total-between-2 : tie.Need-shared-slice-copy-out-total-between-2
 shared-slice-copy-out-total-between-2 c =
     let a = c .before .before .before .before .before .before .before in
-    let long = sums-long (a .args .lines .now) (a .args .sums .now) (a .pre .6) in
-    let within = a .pre .5 .within in
+    let long = sums-long (a .args .lines .now) (a .args .sums .now) (a .pre .0 .totals) in
+    let within = a .pre .1 .within in
     search needs
 
 total-between-requires : tie.Need-total-between-requires
 total-between-requires c κs =
     let a = c .before .before .before .before .before .before .before .before in
-    spanned-rises (a .args .lines .now) (a .args .item) (a .args .letter) (a .args .sums .now) (a .pre .6) (a .pre .5 .within)
+    spanned-rises (a .args .lines .now) (a .args .item) (a .args .letter) (a .args .sums .now) (a .pre .0 .totals) (a .pre .1 .within)
 
 extra-requires : tie.Need-extra-requires
 extra-requires c κs =
     let a = c .before .before .before .before .before .before .before .before .before in
     let i = a .args .item in (
-      between-few (i .start) (i .span) (a .args .lines .now) (a .pre .5 .within) (a .pre .0),
-      between-fits (i .start) (i .span) (a .args .lines .now) (a .pre .4),
-      spanned-total (a .args .lines .now) i (a .args .letter) (a .args .sums .now) (a .pre .6) (a .pre .5 .within) _ (c .total-between .ensures),
+      between-few (i .start) (i .span) (a .args .lines .now) (a .pre .1 .within) (a .pre .0 .few),
+      between-fits (i .start) (i .span) (a .args .lines .now) (a .pre .0 .fit),
+      spanned-total (a .args .lines .now) i (a .args .letter) (a .args .sums .now) (a .pre .0 .totals) (a .pre .1 .within) _ (c .total-between .ensures),
     )
 
 returns : tie.Need-returns
+unfolding inTurn
 returns c =
     let a = c .before .before .before .before .before .before .before .before .before .before .before in
-    (asks-nothing (a .args .lines .now) (a .args .item) (a .args .letter) (a .args .constraint) (a .args .increases .now) _ (c .before .extra .ensures) (search needs), λ _. refl)
+    record { laid = asks-nothing (a .args .lines .now) (a .args .item) (a .args .letter) (a .args .constraint) (a .args .increases .now) _ (c .before .extra .ensures) (search needs); nothing = λ _. refl }
 
 affects-some-requires : tie.Need-affects-some-requires
 affects-some-requires c κs = search needs
 
 returns-2 : tie.Need-returns-2
+unfolding inTurn
 returns-2 c =
     let a = c .before .before .before .before .before .before .before .before .before .before .before .before .before in
-    (affects-nothing (a .args .lines .now) (a .args .item) (a .args .letter) (a .args .constraint) (a .args .increases .now) (c .before .affects-some .ensures) (not-true _ (c .if2 .taken)), λ _. refl)
+    record { laid = affects-nothing (a .args .lines .now) (a .args .item) (a .args .letter) (a .args .constraint) (a .args .increases .now) (c .before .affects-some .ensures) (not-true _ (c .if2 .taken)); nothing = λ _. refl }
 
 slice-relend-prefix-share-extra : tie.Need-slice-relend-prefix-share-extra
 slice-relend-prefix-share-extra c = search needs
@@ -83,7 +86,7 @@ slice-relend-prefix-share-extra c = search needs
 slice-aggregate-share-extra : tie.Need-slice-aggregate-share-extra
 slice-aggregate-share-extra c =
     let a = c .before .before .before .before .before .before .before .before .before .before .before .before .before .before in
-    sym (length-take-le (a .args .item .span) (a .args .gains .now) (omega (arith, a .pre .5 .within, a .pre .2)))
+    sym (length-take-le (a .args .item .span) (a .args .gains .now) (omega (arith, a .pre .1 .within, a .pre .0 .gains-long)))
 
 slice-relend-prefix-share-extra-2 : tie.Need-slice-relend-prefix-share-extra-2
 slice-relend-prefix-share-extra-2 c = search needs
@@ -91,18 +94,20 @@ slice-relend-prefix-share-extra-2 c = search needs
 slice-aggregate-share-extra-2 : tie.Need-slice-aggregate-share-extra-2
 slice-aggregate-share-extra-2 c =
     let a = c .before .before .before .before .before .before .before .before .before .before .before .before .before .before .before in
-    sym (length-take-le (a .args .item .span) (a .args .rests .now) (omega (arith, a .pre .5 .within, a .pre .3)))
+    sym (length-take-le (a .args .item .span) (a .args .rests .now) (omega (arith, a .pre .1 .within, a .pre .0 .rests-long)))
 
 share-extra-requires : tie.Need-share-extra-requires
 share-extra-requires c κs =
     let a = c .before .before .before .before .before .before .before .before .before .before .before .before .before .before .before in
     let i = a .args .item in
-    let on = length-between (i .start) (i .span) (a .args .lines .now) (a .pre .5 .within) in (
-      length-take-le (i .span) (a .args .gains .now) (omega (arith, a .pre .5 .within, a .pre .2)) ∙ sym on,
-      length-take-le (i .span) (a .args .rests .now) (omega (arith, a .pre .5 .within, a .pre .3)) ∙ sym on,
-      between-few (i .start) (i .span) (a .args .lines .now) (a .pre .5 .within) (a .pre .0),
-      extra-few (a .args .lines .now) i (a .args .letter) (a .args .constraint) _ _ (a .pre .5) (c .before .before .before .before .before .extra .ensures),
-      between-fits (i .start) (i .span) (a .args .lines .now) (a .pre .4),
+    let on = length-between (i .start) (i .span) (a .args .lines .now) (a .pre .1 .within) in (
+      record {
+        few = between-few (i .start) (i .span) (a .args .lines .now) (a .pre .1 .within) (a .pre .0 .few);
+        gains-long = length-take-le (i .span) (a .args .gains .now) (omega (arith, a .pre .1 .within, a .pre .0 .gains-long)) ∙ sym on;
+        rests-long = length-take-le (i .span) (a .args .rests .now) (omega (arith, a .pre .1 .within, a .pre .0 .rests-long)) ∙ sym on;
+      },
+      extra-few (a .args .lines .now) i (a .args .letter) (a .args .constraint) _ _ (a .pre .1) (c .before .before .before .before .before .extra .ensures),
+      between-fits (i .start) (i .span) (a .args .lines .now) (a .pre .0 .fit),
     )
 
 slice-reshare-prefix-lay-over : tie.Need-slice-reshare-prefix-lay-over
@@ -111,7 +116,7 @@ slice-reshare-prefix-lay-over c = search needs
 slice-aggregate-lay-over : tie.Need-slice-aggregate-lay-over
 slice-aggregate-lay-over c =
     let a = c .before .before .before .before .before .before .before .before .before .before .before .before .before .before .before .before .before .before .before .before .before in
-    sym (gains-long (a .args .lines .now) (a .args .item) (a .args .letter) (a .args .constraint) _ _ (a .args .gains .now) (a .pre .5 .within) (c .before .before .before .before .before .share-extra .ensures))
+    sym (gains-long (a .args .lines .now) (a .args .item) (a .args .letter) (a .args .constraint) _ _ (a .args .gains .now) (a .pre .1 .within) (c .before .before .before .before .before .share-extra .ensures))
 
 mul-lay-over : tie.Need-mul-lay-over
 mul-lay-over c = search needs
@@ -129,8 +134,8 @@ lay-over-requires : tie.Need-lay-over-requires
 lay-over-requires c κs =
     let a = c .before .before .before .before .before .before .before .before .before .before .before .before .before .before .before .before .before .before .before .before .before .before in
     let i = a .args .item in
-    gains-long (a .args .lines .now) i (a .args .letter) (a .args .constraint) _ _ (a .args .gains .now) (a .pre .5 .within) (c .before .before .before .before .before .before .share-extra .ensures)
-    ∙ sym (length-between (i .start) (i .span) (a .args .increases .now) (omega (arith, a .pre .5 .within, a .pre .1)))
+    gains-long (a .args .lines .now) i (a .args .letter) (a .args .constraint) _ _ (a .args .gains .now) (a .pre .1 .within) (c .before .before .before .before .before .before .share-extra .ensures)
+    ∙ sym (length-between (i .start) (i .span) (a .args .increases .now) (omega (arith, a .pre .1 .within, a .pre .0 .increases-long)))
 
 same-length : tie.Need-same-length
 same-length c = search needs
@@ -142,13 +147,14 @@ same-length-3 : tie.Need-same-length-3
 same-length-3 c = search needs
 
 returns-3 : tie.Need-returns-3
+unfolding inTurn
 returns-3 c =
     let a = c .before .before .before .before .before .before .before .before .before .before .before .before .before .before .before .before .before .before .before .before .before .before .before .before .before in
-    let i = a .args .item in (
-      laid-over (a .args .lines .now) i (a .args .letter) (a .args .constraint) (a .args .gains .now) (a .args .increases .now) _ _ _ (a .pre .5 .within)
-          (c .before .before .before .before .before .before .before .before .before .before .before .before .before .before .before .extra .ensures) (c .before .before .before .before .before .before .before .before .before .share-extra .ensures) (c .before .before .lay-over .ensures),
-      λ e. absurd (true≢false e),
-    )
+    let i = a .args .item in record {
+      laid = laid-over (a .args .lines .now) i (a .args .letter) (a .args .constraint) (a .args .gains .now) (a .args .increases .now) _ _ _ (a .pre .1 .within)
+          (c .before .before .before .before .before .before .before .before .before .before .before .before .before .before .before .extra .ensures) (c .before .before .before .before .before .before .before .before .before .share-extra .ensures) (c .before .before .lay-over .ensures);
+      nothing = λ e. absurd (true≢false e);
+    }
 
 pub plan-item-spec : {M : Type 1} → statement M
 plan-item-spec =

@@ -9,17 +9,17 @@ use Rattle.lines.specs.Rows.{linesOf}
 use Rattle.letters.proofs.Nothing.{or-neither}
 use Rattle.spans.proofs.Calm.{lines-stay}
 use Rattle.spans.proofs.Planned.{sums-long}
-use Rattle.spans.proofs.Raised.{length-planned, planned-fit, raised-is, not-raised}
+use Rattle.spans.proofs.Raised.{length-planned, planned-fit, raised-is, not-raised, working-after}
 use Rattle.spans.proofs.batch.raise.Tie as tie
 
 plan-batch-requires : tie.Need-plan-batch-requires
 plan-batch-requires c κs =
     let s = c .before .before .before .before .before .before .before .before .before in
     let w = s .pre .0 in
-    (w .few, ap length (w .none) ∙ length-replicate _ _, w .gains-long, w .rests-long, w .fit, s .pre .1, w .totals)
+    (record { few = w .few; fit = w .fit; increases-long = ap length (w .none) ∙ length-replicate _ _; gains-long = w .gains-long; rests-long = w .rests-long; totals = w .totals }, s .pre .1)
 
-settles-requires : tie.Need-settles-requires
-settles-requires c κs = search needs
+changes-unraised-requires : tie.Need-changes-unraised-requires
+changes-unraised-requires c κs = search needs
 
 same-length : tie.Need-same-length
 same-length c = search needs
@@ -43,18 +43,21 @@ returns c =
     let a = s .args in
     let planned = c .before .before .before .before .before .before .before .before .plan-batch .ensures in
     let off = or-neither _ _ (not-true _ (c .if1 .taken)) in
-    let stay = lines-stay (a .letter) (a .moved) (linesOf (a .lines .now)) (ap (λ (b : Bool). a .moved && b) (sym (c .before .settles .ensures)) ∙ off .1) (s .pre .2) in
-    (not-raised (a .letter) (a .constraint) _ (a .lines .now) (a .increases .now) _ (w .none) (planned .0) (planned .1 (off .0)) stay, w .fit, planned .1 (off .0) ∙ w .none, w .totals, s .pre .2)
+    let stay = lines-stay (a .letter) (a .moved) (linesOf (a .lines .now)) (ap (λ (b : Bool). a .moved && b) (sym (c .before .changes-unraised .ensures)) ∙ off .1) (s .pre .2) in (
+      not-raised (a .letter) (a .constraint) _ (a .lines .now) (a .increases .now) _ (w .none) (planned .laid) (planned .nothing (off .0)) stay,
+      record { few = w .few; fit = w .fit; none = planned .nothing (off .0) ∙ w .none; gains-long = search needs; rests-long = search needs; totals = w .totals },
+      s .pre .2,
+    )
 
 apply-requires : tie.Need-apply-requires
 apply-requires c κs =
     let s = c .before .before .before .before .before .before .before .before .before .before .before .before .before .before .before .before .before .before .before .before in
     let w = s .pre .0 in
     let a = s .args in
-    let planned = c .before .before .before .before .before .before .before .before .before .before .plan-batch .ensures in (
-      length-planned (a .letter) (a .constraint) _ (a .lines .now) (a .increases .now) _ (w .none) (planned .0),
-      planned-fit (a .letter) (a .constraint) _ (a .lines .now) (a .increases .now) _ (w .none) (planned .0) _ (w .fit) (s .pre .1 .fit),
-    )
+    let planned = c .before .before .before .before .before .before .before .before .before .before .plan-batch .ensures in record {
+      long = length-planned (a .letter) (a .constraint) _ (a .lines .now) (a .increases .now) _ (w .none) (planned .laid);
+      fits = planned-fit (a .letter) (a .constraint) _ (a .lines .now) (a .increases .now) _ (w .none) (planned .laid) _ (w .fit) (s .pre .1 .fit);
+    }
 
 tally-requires : tie.Need-tally-requires
 tally-requires c κs =
@@ -86,15 +89,15 @@ returns-2 c =
     let a = s .args in
     let planned = c .before .before .before .before .before .before .before .before .before .before .before .before .before .before .before .before .before .before .plan-batch .ensures in
     let applied = c .before .before .before .before .before .before .before .apply .ensures in
-    let r = raised-is (a .letter) (a .constraint) _ (a .lines .now) (a .increases .now) _ (w .none) (planned .0) _ (w .fit) (s .pre .1 .fit) _ (applied .0) in
-    (r .0, r .1, applied .1, c .before .tally .ensures, λ e. absurd (true≢false e))
+    let r = raised-is (a .letter) (a .constraint) _ (a .lines .now) (a .increases .now) _ (w .none) (planned .laid) _ (w .fit) (s .pre .1 .fit) _ (applied .0) in
+    (r .0, working-after w (search needs) (search needs) (search needs) (r .1) (applied .1) (c .before .tally .ensures), λ e. absurd (true≢false e))
 
 pub raise-spec : {M : Type 1} → statement M
 raise-spec =
     tie.close
     (tie.spec
     plan-batch-requires
-    settles-requires
+    changes-unraised-requires
     same-length
     same-length-2
     same-length-3

@@ -4,13 +4,13 @@ use Rattle.spans.proofs.batch.raise_all.Statement.{statement}
 use mathlib.Core.Path.{_≡_, refl, ap, sym, _∙_}
 use mathlib.Core.Bool.{false}
 use Prim.Native.Nat.{_+_, _-_, _≤_, zero-le}
-use lib.ListN.{length, replicate, length-replicate}
+use lib.ListN.{length, length-replicate}
 use Rattle.lines.specs.Rows.{linesOf}
 use Rattle.lines.specs.Chains.{chained}
 use Rattle.spans.specs.Work.{Working, Calm, letterSteps}
 use Rattle.spans.proofs.Calm.{still-calm}
 use Rattle.spans.proofs.Planned.{sums-long}
-use Rattle.spans.proofs.Raised.{steps-more, working-after, chain-fits-as}
+use Rattle.spans.proofs.Raised.{steps-more, chain-fits-as}
 use Rattle.spans.proofs.batch.raise_all.Tie as tie
 
 abbrev Inv-loop : tie.InvT-loop
@@ -49,11 +49,11 @@ loop-again c =
     let a = s .args in
     let h = c .before .before .before .before .before .before .before .before .before .before .before .before .before .before .before .loop in
     let e = c .before .before .before .before .before .before .before .before .raise-at .ensures in (
-      working-after (h .inv .0) (search needs) (search needs) (search needs) (e .1) (e .2) (e .3),
+      e .1,
       search needs,
       search needs,
       steps-more (h .k) (a .constraint) (chained (a .items .now) (a .nexts .now) (a .first)) (linesOf (h .lines)) (linesOf (a .lines .now)) _ (h .inv .3) (e .0),
-      e .4,
+      e .2,
     )
 
 same-length : tie.Need-same-length Inv-loop μ-loop
@@ -83,8 +83,7 @@ returns c =
     let a = s .args in
     let h = c .before .loop in
     let six : h .k ≡ 6 = search needs in
-    let w = h .inv .0 in
-    (h .inv .3 ∙ ap (λ n. letterSteps n (a .constraint) (chained (a .items .now) (a .nexts .now) (a .first)) (linesOf (a .lines .now))) six, w .fit, w .none ∙ ap (λ n. replicate n 0) (h .inv .1), w .totals)
+    (h .inv .3 ∙ ap (λ n. letterSteps n (a .constraint) (chained (a .items .now) (a .nexts .now) (a .first)) (linesOf (a .lines .now))) six, h .inv .0)
 
 pub raise-all-spec : {M : Type 1} → statement M
 raise-all-spec =

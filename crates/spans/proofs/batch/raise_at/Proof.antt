@@ -7,15 +7,14 @@ use borrow.Author.Tests.{not-true, not-false}
 use Rattle.spans.proofs.Raised.{step-left, step-taken}
 use Rattle.spans.proofs.batch.raise_at.Tie as tie
 
-has-place-requires : tie.Need-has-place-requires
-has-place-requires c κs = search needs
+letter-runs-requires : tie.Need-letter-runs-requires
+letter-runs-requires c κs = search needs
 
 returns : tie.Need-returns
 returns c =
     let s = c .before .before .before .before .before .before in
     let a = s .args in
-    let w = s .pre .0 in
-    (step-left (a .k) (a .constraint) (chained (a .items .now) (a .nexts .now) (a .first)) (linesOf (a .lines .now)) (c .before .has-place .ensures) (not-true _ (c .if1 .taken)), w .fit, w .none, w .totals, s .pre .2)
+    (step-left (a .k) (a .constraint) (chained (a .items .now) (a .nexts .now) (a .first)) (linesOf (a .lines .now)) (c .before .letter-runs .ensures) (not-true _ (c .if1 .taken)), s .pre .0, s .pre .2)
 
 letter-at-requires : tie.Need-letter-at-requires
 letter-at-requires c κs = search needs
@@ -43,13 +42,13 @@ returns-2 c =
     let s = c .before .before .before .before .before .before .before .before .before .before .before .before .before .before .before .before .before .before .before .before .before in
     let a = s .args in
     let e = c .before .before .before .before .before .before .before .before .raise .ensures in
-    (step-taken (a .k) (a .constraint) (chained (a .items .now) (a .nexts .now) (a .first)) (linesOf (a .lines .now)) _ (c .before .before .before .before .before .before .before .before .before .before .before .before .before .before .before .before .has-place .ensures) (not-false _ (c .before .before .before .before .before .before .before .before .before .before .before .before .before .before .before .if1 .left)) (c .before .before .before .before .before .before .before .before .before .before .before .before .before .before .letter-at .ensures) (e .0), e .1, e .2, e .3, e .4)
+    (step-taken (a .k) (a .constraint) (chained (a .items .now) (a .nexts .now) (a .first)) (linesOf (a .lines .now)) _ (c .before .before .before .before .before .before .before .before .before .before .before .before .before .before .before .before .letter-runs .ensures) (not-false _ (c .before .before .before .before .before .before .before .before .before .before .before .before .before .before .before .if1 .left)) (c .before .before .before .before .before .before .before .before .before .before .before .before .before .before .letter-at .ensures) (e .0), e .1, e .2)
 
 pub raise-at-spec : {M : Type 1} → statement M
 raise-at-spec =
     tie.close
     (tie.spec
-    has-place-requires
+    letter-runs-requires
     returns
     letter-at-requires
     raise-requires

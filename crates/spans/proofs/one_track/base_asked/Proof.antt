@@ -20,8 +20,14 @@ for-auto-requires c κs = search needs
 enum-told-3 : tie.Need-enum-told-3
 enum-told-3 c = search needs
 
+at-requires : tie.Need-at-requires
+at-requires c κs = search needs
+
 enum-told-4 : tie.Need-enum-told-4
 enum-told-4 c = search needs
+
+at-requires-2 : tie.Need-at-requires-2
+at-requires-2 c κs = search needs
 
 returns : tie.Need-returns
 returns c = search needs
@@ -35,10 +41,14 @@ returns-2 c =
     ∙ ap (λ (m : Minimum). baseAsked (a .constraint) (a .item) (a .line) m) (sym (c .before .enum-told2 .given .1))
 
 returns-3 : tie.Need-returns-3
-returns-3 c = search needs
+returns-3 c =
+    let a = c .before .before .before .before .args in
+    c .at .ensures ∙ ap (λ (m : Minimum). baseAsked (a .constraint) (a .item) (a .line) m) (sym (c .before .enum-told3 .given .1))
 
 returns-4 : tie.Need-returns-4
-returns-4 c = search needs
+returns-4 c =
+    let a = c .before .before .before .before .args in
+    c .at2 .ensures ∙ ap (λ (m : Minimum). baseAsked (a .constraint) (a .item) (a .line) m) (sym (c .before .enum-told4 .given .1))
 
 pub base-asked-spec : {M : Type 1} → statement M
 base-asked-spec =
@@ -48,7 +58,9 @@ base-asked-spec =
     enum-told-2
     for-auto-requires
     enum-told-3
+    at-requires
     enum-told-4
+    at-requires-2
     returns
     returns-2
     returns-3

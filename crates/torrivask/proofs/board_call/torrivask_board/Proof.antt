@@ -19,7 +19,7 @@ cast-tracks c =
     let entry = c .before .before .before .before .before .before .before .args in
     let call = c .before .before .before .before .board in
     let gives = c .before .answer .given in
-    let few = tracks-few (entry .sheet .now) (entry .places .now) (call .result) _ _ _ _ (call .ensures .0) (gives .1) in
+    let few = tracks-few (entry .sheet .now) (entry .sizes .now) (call .result) _ _ _ _ (call .ensures .0) (gives .1) in
     search needs
 
 enum-told : tie.Need-enum-told

@@ -14,24 +14,24 @@ enum-known-answer c = search needs
 row-requires : tie.Need-row-requires
 row-requires c κs = search needs
 
-cast-columns : tie.Need-cast-columns
-cast-columns c =
+cast-track-count : tie.Need-cast-track-count
+cast-track-count c =
     let entry = c .before .before .before .before .before .before .before .before .before .before .args in
     let call = c .before .before .before .before .before .before .read in
     let gives = c .before .before .answer .given in
     let few = counts-few (entry .sheet .now) (entry .tracks .now) (entry .items .now) (call .result) _ _ _ _ _ (call .ensures) (gives .1) in
-    let columns = few .0 in
-    let fares = few .1 in
+    let trackCount = few .0 in
+    let itemCount = few .1 in
     search needs
 
-cast-fares : tie.Need-cast-fares
-cast-fares c =
+cast-item-count : tie.Need-cast-item-count
+cast-item-count c =
     let entry = c .before .before .before .before .before .before .before .before .before .before .args in
     let call = c .before .before .before .before .before .before .read in
     let gives = c .before .before .answer .given in
     let few = counts-few (entry .sheet .now) (entry .tracks .now) (entry .items .now) (call .result) _ _ _ _ _ (call .ensures) (gives .1) in
-    let columns = few .0 in
-    let fares = few .1 in
+    let trackCount = few .0 in
+    let itemCount = few .1 in
     search needs
 
 enum-known-answer-2 : tie.Need-enum-known-answer-2
@@ -54,7 +54,7 @@ returns c =
     let entry = c .before .before .before .before .before .before .before .before .before .before .args in
     let call = c .before .before .before .before .before .before .read in
     let gives = c .before .before .answer .given in
-    read-writes (call .result) _ _ _ (call .ensures) (entry .space .now) (entry .columns .now) (entry .fares .now) (entry .place .now) _ _ _ _ (gives .1) (c .row .ensures)
+    read-writes (call .result) _ _ _ (call .ensures) (entry .space .now) (entry .track-count .now) (entry .item-count .now) (entry .place .now) _ _ _ _ (gives .1) (c .row .ensures)
 
 same-length-3 : tie.Need-same-length-3
 same-length-3 c = search needs
@@ -67,7 +67,7 @@ returns-2 c =
     let entry = c .before .before .before .before .before .before .before .before .before .before .before .args in
     let call = c .before .before .before .before .before .before .before .read in
     let refuses = c .before .before .before .answer2 .given in
-    read-refused (call .result) _ _ _ (call .ensures) (entry .space .now) (entry .columns .now) (entry .fares .now) (entry .place .now) (refuses .0 .0) _ _ (refuses .1) (c .number .ensures) (c .before .place .ensures)
+    read-refused (call .result) _ _ _ (call .ensures) (entry .space .now) (entry .track-count .now) (entry .item-count .now) (entry .place .now) (refuses .0 .0) _ _ (refuses .1) (c .number .ensures) (c .before .place .ensures)
 
 pub torrivask-read-sheet-spec : {M : Type 1} → statement M
 torrivask-read-sheet-spec =
@@ -76,8 +76,8 @@ torrivask-read-sheet-spec =
     read-requires
     enum-known-answer
     row-requires
-    cast-columns
-    cast-fares
+    cast-track-count
+    cast-item-count
     enum-known-answer-2
     place-requires
     number-requires

@@ -1,77 +1,66 @@
 -- `falls` finds a given contribution below an earlier given one: each pair in its turn. Assumes nothing.
 use borrow.Author.Needs.{needs}
 use mathlib.Core.Path.{_≡_}
-use mathlib.Core.Bool.{Bool, true, false, _||_}
-use Rattle.kinds.specs.Kinds.{contribution, isAbove}
-use lib.ListN.{getD}
-use Rattle.kinds.specs.declared.amount.Amount.the-variants.{Absent}
-use mathlib.Core.List.{List}
-use Rattle.kinds.specs.declared.item.Contribution.{Contribution}
-use Prim.Native.Nat.{ℕ}
+use mathlib.Core.Bool.{Bool, true, false}
+use Rattle.kinds.specs.Kinds.{above, amountAt, falls}
+use Rattle.kinds.specs.declared.item.ContributionKind.the-variants as kind
+use Rattle.kinds.specs.declared.item.Item.{Item}
 use Rattle.kinds.proofs.item.Item.falls.Statement.{statement}
 use Rattle.kinds.proofs.item.Item.falls.Tie as tie
 
-abbrev pair : List Contribution → ℕ → ℕ → Bool
-pair row i j = isAbove (getD row i (contribution Absent)) (getD row j (contribution Absent))
+by-first : (i : Item) → above (amountAt i kind.Minimum) (amountAt i kind.MinContent) ≡ true → true ≡ falls i
+by-first i e = rw e
 
-falls-by-first : (x y z : Bool) → x ≡ true → true ≡ x || (y || z)
-falls-by-first x y z e = rw e
+by-second : (i : Item)
+    → above (amountAt i kind.Minimum) (amountAt i kind.MinContent) ≡ false
+    → above (amountAt i kind.MinContent) (amountAt i kind.MaxContent) ≡ true
+    → true ≡ falls i
+by-second i e f = rw (e, f)
 
-falls-by-second : (x y z : Bool) → x ≡ false → y ≡ true → true ≡ x || (y || z)
-falls-by-second x y z e f = rw (e, f)
+by-last : (i : Item) (b : Bool)
+    → above (amountAt i kind.Minimum) (amountAt i kind.MinContent) ≡ false
+    → above (amountAt i kind.MinContent) (amountAt i kind.MaxContent) ≡ false
+    → b ≡ above (amountAt i kind.Minimum) (amountAt i kind.MaxContent)
+    → b ≡ falls i
+by-last i b e f g = rw (e, f) g
 
-falls-by-last : (x y z b : Bool) → x ≡ false → y ≡ false → b ≡ z → b ≡ x || (y || z)
-falls-by-last x y z b e f g = rw (e, f) g
+amount-requires : tie.Need-amount-requires
+amount-requires c κs = search needs
 
-array-copy-out-is-above : tie.Need-array-copy-out-is-above
-array-copy-out-is-above c = search needs
+amount-requires-2 : tie.Need-amount-requires-2
+amount-requires-2 c κs = search needs
 
-array-copy-out-is-above-2 : tie.Need-array-copy-out-is-above-2
-array-copy-out-is-above-2 c = search needs
+amount-requires-3 : tie.Need-amount-requires-3
+amount-requires-3 c κs = search needs
 
 is-above-requires : tie.Need-is-above-requires
 is-above-requires c κs = search needs
 
 returns : tie.Need-returns
-returns c = let row = c .before .before .before .before .before .args .self .row in falls-by-first (pair row 0 1) (pair row 1 2) (pair row 0 2) (cc)
-
-array-copy-out-is-above-3 : tie.Need-array-copy-out-is-above-3
-array-copy-out-is-above-3 c = search needs
-
-array-copy-out-is-above-4 : tie.Need-array-copy-out-is-above-4
-array-copy-out-is-above-4 c = search needs
+returns c = by-first (c .before .before .before .before .before .args .self) (cc)
 
 is-above-requires-2 : tie.Need-is-above-requires-2
 is-above-requires-2 c κs = search needs
 
 returns-2 : tie.Need-returns-2
-returns-2 c = let row = c .before .before .before .before .before .before .before .before .before .args .self .row in falls-by-second (pair row 0 1) (pair row 1 2) (pair row 0 2) (cc) (cc)
-
-array-copy-out-is-above-5 : tie.Need-array-copy-out-is-above-5
-array-copy-out-is-above-5 c = search needs
-
-array-copy-out-is-above-6 : tie.Need-array-copy-out-is-above-6
-array-copy-out-is-above-6 c = search needs
+returns-2 c = by-second (c .before .before .before .before .before .before .before .args .self) (cc) (cc)
 
 is-above-requires-3 : tie.Need-is-above-requires-3
 is-above-requires-3 c κs = search needs
 
 returns-3 : tie.Need-returns-3
-returns-3 c = let row = c .before .before .before .before .before .before .before .before .before .before .before .before .args .self .row in falls-by-last (pair row 0 1) (pair row 1 2) (pair row 0 2) _ (cc) (cc) (cc)
+returns-3 c = by-last (c .before .before .before .before .before .before .before .before .args .self) _ (cc) (cc) (cc)
 
 pub falls-spec : {M : Type 1} → statement M
 falls-spec =
     tie.close
     (tie.spec
-    array-copy-out-is-above
-    array-copy-out-is-above-2
+    amount-requires
+    amount-requires-2
+    amount-requires-3
     is-above-requires
     returns
-    array-copy-out-is-above-3
-    array-copy-out-is-above-4
     is-above-requires-2
     returns-2
-    array-copy-out-is-above-5
-    array-copy-out-is-above-6
     is-above-requires-3
     returns-3)

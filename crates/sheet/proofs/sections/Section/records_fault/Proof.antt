@@ -21,8 +21,8 @@ size-requires c κs = search needs
 loop-holds : tie.Need-loop-holds Inv-loop μ-loop
 loop-holds c = refl
 
-record-fault-requires : tie.Need-record-fault-requires Inv-loop μ-loop
-record-fault-requires c κs = search needs
+whole-row-fault-requires : tie.Need-whole-row-fault-requires Inv-loop μ-loop
+whole-row-fault-requires c κs = search needs
 
 is-fine-requires : tie.Need-is-fine-requires Inv-loop μ-loop
 is-fine-requires c κs = search needs
@@ -30,12 +30,12 @@ is-fine-requires c κs = search needs
 returns : tie.Need-returns Inv-loop μ-loop
 returns c =
     let start = c .before .before .before .before .before .before .before in let head = c .before .before .before .before .loop in
-    first-of-found _ (c .before .before .record-fault .ensures) (c .before .is-fine .ensures) (c .if1 .taken) _ ∙ sym (records-first (partsOf (start .args .self)) (start .args .bytes .now) (head .left) (head .at) (c .before .before .before .loop-test .taken)) ∙ head .inv
+    first-of-found _ (c .before .before .whole-row-fault .ensures) (c .before .is-fine .ensures) (c .if1 .taken) _ ∙ sym (records-first (partsOf (start .args .self)) (start .args .bytes .now) (head .left) (head .at) (c .before .before .before .loop-test .taken)) ∙ head .inv
 
 add-at : tie.Need-add-at Inv-loop μ-loop
 add-at c =
     let start = c .before .before .before .before .before .before .before in let head = c .before .before .before .before .loop in
-    let whole = record-whole (partsOf (start .args .self)) (start .args .bytes .now) (head .at) (fine-of-passed _ (c .before .before .record-fault .ensures) (c .before .is-fine .ensures) (c .if1 .left)) in
+    let whole = record-whole (partsOf (start .args .self)) (start .args .bytes .now) (head .at) (fine-of-passed _ (c .before .before .whole-row-fault .ensures) (c .before .is-fine .ensures) (c .if1 .left)) in
     omega (arith, c .before .before .before .before .before .size .ensures)
 
 sub-left : tie.Need-sub-left Inv-loop μ-loop
@@ -48,7 +48,7 @@ loop-again : tie.Need-loop-again Inv-loop μ-loop
 loop-again c =
     let start = c .before .before .before .before .before .before .before in let head = c .before .before .before .before .loop in
     ap (λ (n : ℕ). recordsFault (partsOf (start .args .self)) (start .args .bytes .now) (head .left - 1) (head .at + n)) (c .before .before .before .before .before .size .ensures)
-    ∙ first-of-fine (recordFault (partsOf (start .args .self)) (start .args .bytes .now) (head .at)) _ (fine-of-passed _ (c .before .before .record-fault .ensures) (c .before .is-fine .ensures) (c .if1 .left))
+    ∙ first-of-fine (recordFault (partsOf (start .args .self)) (start .args .bytes .now) (head .at)) _ (fine-of-passed _ (c .before .before .whole-row-fault .ensures) (c .before .is-fine .ensures) (c .if1 .left))
     ∙ sym (records-first (partsOf (start .args .self)) (start .args .bytes .now) (head .left) (head .at) (c .before .before .before .loop-test .taken))
     ∙ head .inv
 
@@ -66,7 +66,7 @@ records-fault-spec =
     μ-loop
     size-requires
     loop-holds
-    record-fault-requires
+    whole-row-fault-requires
     is-fine-requires
     returns
     add-at

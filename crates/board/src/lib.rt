@@ -2,7 +2,7 @@
 // in words). A sheet is read, and what it says is laid out. All memory that this takes is chosen here, once, and lent to what is below.
 mod refusal;
 
-use chains::BATCHES;
+use chains::MORE_BATCHES;
 use kinds::Item;
 use kinds::Track;
 use layout::LayoutAnswer;
@@ -31,8 +31,12 @@ pub enum BoardAnswer {
 // So many tracks, or items, at most work in a small store, which is cleared sooner.
 const FEW: usize = 64;
 
-// A total before each track and one behind the last.
+// A head for each batch; a total before each track, and one behind the last.
+const FEW_HEADS: usize = FEW + MORE_BATCHES;
+
 const FEW_TOTALS: usize = FEW + 1;
+
+const HEADS: usize = Track::MOST + MORE_BATCHES;
 
 const TOTALS: usize = Track::MOST + 1;
 
@@ -54,7 +58,7 @@ fn board_small(bytes: &[u8], sizes: &mut [[u32; 2]]) -> BoardAnswer
 {
     let mut tracks = [[0u32; 4]; FEW];
     let mut items = [[0u32; 7]; FEW];
-    let mut heads = [0usize; BATCHES];
+    let mut heads = [0usize; FEW_HEADS];
     let mut nexts = [0usize; FEW];
     let mut lines = [[0u32; 8]; FEW];
     let mut increases = [0u32; FEW];
@@ -84,7 +88,7 @@ fn board_large(bytes: &[u8], sizes: &mut [[u32; 2]]) -> BoardAnswer
 {
     let mut tracks = [[0u32; 4]; Track::MOST];
     let mut items = [[0u32; 7]; Item::MOST];
-    let mut heads = [0usize; BATCHES];
+    let mut heads = [0usize; HEADS];
     let mut nexts = [0usize; Item::MOST];
     let mut lines = [[0u32; 8]; Track::MOST];
     let mut increases = [0u32; Track::MOST];
@@ -134,12 +138,13 @@ fn board_with(
             tracks: n,
             items: m,
         } => {
+            let batches = n + MORE_BATCHES;
             let totals = n + 1;
             let laid_out = lay_out(
                 space,
                 &tracks[..n],
                 &items[..m],
-                heads,
+                &mut heads[..batches],
                 &mut nexts[..m],
                 &mut lines[..n],
                 &mut increases[..n],

@@ -7,9 +7,8 @@ use Prim.Native.Nat.{ℕ, _+_, _≤_, _<_}
 use native.Mathlib.Omega.{arith}
 use lib.Dec.{eqb}
 use lib.ListN.{length, getD, take, drop}
-use borrow.Author.Tests.{ne-eqb}
+use borrow.Author.Tests.{eq-eqb, ne-eqb}
 use Rattle.laws.specs.Lists.{All, keep, some}
-use Rattle.rounds.specs.Rule.{mostTracks}
 use Rattle.kinds.specs.Kinds.{Row, itemOf, amountNumber, kindIndex, amountAt}
 use Rattle.kinds.specs.declared.amount.Amount.{Amount}
 use Rattle.kinds.specs.declared.amount.Amount.the-variants.{Absent, Given}
@@ -109,10 +108,10 @@ nothing r false false = refl
 
 -- by its start and span, its amounts and its tests: it is measured, and it is on an fr track
 module _ (ts : List Track) (start span : ℕ) where
-  at-span : (k : ℕ) → 0 < k → k ≤ mostTracks → (a b c : Amount) (m f : Bool) → some isFr (take span (drop start ts)) ≡ f
-      → cond (eqb (numbered m (lacks a b c) f span) k) (completeOf start span a b c) [] ≡ keep (inSpan ts k) (cond m (completeOf start span a b c) [])
+  at-span : (k : ℕ) → 0 < k → k ≤ length ts + 1 → (a b c : Amount) (m f : Bool) → some isFr (take span (drop start ts)) ≡ f
+      → cond (eqb (numbered (length ts) m (lacks a b c) f span) k) (completeOf start span a b c) [] ≡ keep (inSpan ts k) (cond m (completeOf start span a b c) [])
   unfolding keep
-  at-span k h l (Given x) (Given y) (Given z) true true e = rw (e, ne-eqb frBatch k (λ (d : frBatch ≡ k). omega arith)) (go (eqb span k))
+  at-span k h l (Given x) (Given y) (Given z) true true e = rw (e, ne-eqb (frBatch (length ts)) k (λ (d : frBatch (length ts) ≡ k). omega arith)) (go (eqb span k))
     where
       one : List Measured
       one = record { start = start; span = span; row = x ∷ y ∷ z ∷ [] } ∷ []
@@ -129,27 +128,27 @@ module _ (ts : List Track) (start span : ℕ) where
       go true = refl
       go false = refl
   at-span k h l (Given x) (Given y) (Given z) false f e = rw (ne-eqb 0 k (λ (d : 0 ≡ k). omega arith)) refl
-  at-span k h l (Given x) (Given y) Absent m f e = nothing (inSpan ts k) (eqb (numbered m true f span) k) m
-  at-span k h l (Given x) Absent c m f e = nothing (inSpan ts k) (eqb (numbered m true f span) k) m
-  at-span k h l Absent b c m f e = nothing (inSpan ts k) (eqb (numbered m true f span) k) m
+  at-span k h l (Given x) (Given y) Absent m f e = nothing (inSpan ts k) (eqb (numbered (length ts) m true f span) k) m
+  at-span k h l (Given x) Absent c m f e = nothing (inSpan ts k) (eqb (numbered (length ts) m true f span) k) m
+  at-span k h l Absent b c m f e = nothing (inSpan ts k) (eqb (numbered (length ts) m true f span) k) m
 
-  at-last : span ≤ mostTracks → (a b c : Amount) (m f : Bool) → some isFr (take span (drop start ts)) ≡ f
-      → cond (eqb (numbered m (lacks a b c) f span) frBatch) (completeOf start span a b c) [] ≡ keep (onFr ts) (cond m (completeOf start span a b c) [])
+  at-last : span ≤ length ts → (a b c : Amount) (m f : Bool) → some isFr (take span (drop start ts)) ≡ f
+      → cond (eqb (numbered (length ts) m (lacks a b c) f span) (frBatch (length ts))) (completeOf start span a b c) [] ≡ keep (onFr ts) (cond m (completeOf start span a b c) [])
   unfolding keep
-  at-last h (Given x) (Given y) (Given z) true true e = rw e refl
-  at-last h (Given x) (Given y) (Given z) true false e = rw (e, ne-eqb span frBatch (λ (d : span ≡ frBatch). omega arith)) refl
-  at-last h (Given x) (Given y) (Given z) false f e = refl
-  at-last h (Given x) (Given y) Absent m f e = nothing (onFr ts) (eqb (numbered m true f span) frBatch) m
-  at-last h (Given x) Absent c m f e = nothing (onFr ts) (eqb (numbered m true f span) frBatch) m
-  at-last h Absent b c m f e = nothing (onFr ts) (eqb (numbered m true f span) frBatch) m
+  at-last h (Given x) (Given y) (Given z) true true e = rw (e, eq-eqb (frBatch (length ts)) (frBatch (length ts)) refl) refl
+  at-last h (Given x) (Given y) (Given z) true false e = rw (e, ne-eqb span (frBatch (length ts)) (λ (d : span ≡ frBatch (length ts)). omega arith)) refl
+  at-last h (Given x) (Given y) (Given z) false f e = rw (ne-eqb 0 (frBatch (length ts)) (λ (d : 0 ≡ frBatch (length ts)). omega arith)) refl
+  at-last h (Given x) (Given y) Absent m f e = nothing (onFr ts) (eqb (numbered (length ts) m true f span) (frBatch (length ts))) m
+  at-last h (Given x) Absent c m f e = nothing (onFr ts) (eqb (numbered (length ts) m true f span) (frBatch (length ts))) m
+  at-last h Absent b c m f e = nothing (onFr ts) (eqb (numbered (length ts) m true f span) (frBatch (length ts))) m
 
 module _ (ts : List Track) (i : Item) where
-  item-at-span : (k : ℕ) → 0 < k → k ≤ mostTracks → cond (inBatch ts k i) (complete i) [] ≡ keep (inSpan ts k) (cond (isMeasured ts i) (complete i) [])
+  item-at-span : (k : ℕ) → 0 < k → k ≤ length ts + 1 → cond (inBatch ts k i) (complete i) [] ≡ keep (inSpan ts k) (cond (isMeasured ts i) (complete i) [])
   unfolding batchOf some
   item-at-span k h l =
       at-span ts (i .start) (i .span) k h l (amountAt i kind.Minimum) (amountAt i kind.MinContent) (amountAt i kind.MaxContent) (isMeasured ts i) (crossesFr ts i) refl
 
-  item-at-last : i .span ≤ mostTracks → cond (inBatch ts frBatch i) (complete i) [] ≡ keep (onFr ts) (cond (isMeasured ts i) (complete i) [])
+  item-at-last : i .span ≤ length ts → cond (inBatch ts (frBatch (length ts)) i) (complete i) [] ≡ keep (onFr ts) (cond (isMeasured ts i) (complete i) [])
   unfolding batchOf some
   item-at-last h =
       at-last ts (i .start) (i .span) h (amountAt i kind.Minimum) (amountAt i kind.MinContent) (amountAt i kind.MaxContent) (isMeasured ts i) (crossesFr ts i) refl
@@ -187,13 +186,13 @@ unfolding chained chainItems
 chained-items rows nexts first = sym (flat-map-map complete (λ (j : ℕ). itemOf (getD rows j [])) (chain nexts first))
 
 module _ (ts : List Track) (rows : List Row) (heads nexts : List ℕ)
-    (few : length ts ≤ mostTracks) (fits : All (ItemFits (length ts)) (map itemOf rows))
-    (all : length heads ≡ batches) (g : Gathered ts rows heads nexts) where
+    (fits : All (ItemFits (length ts)) (map itemOf rows))
+    (all : length heads ≡ batches (length ts)) (g : Gathered ts rows heads nexts) where
   -- a batch's chain names the parts of its items
-  batch-chain : (k : ℕ) → k < batches → chained rows nexts (getD heads k 0) ≡ flatMap complete (keep (inBatch ts k) (map itemOf rows))
+  batch-chain : (k : ℕ) → k < batches (length ts) → chained rows nexts (getD heads k 0) ≡ flatMap complete (keep (inBatch ts k) (map itemOf rows))
   batch-chain k l = chained-items rows nexts (getD heads k 0) ∙ ap (flatMap complete) (g .batch k (omega arith))
 
-  pub gathered-span : (k : ℕ) → 0 < k → k ≤ mostTracks → chained rows nexts (getD heads k 0) ≡ keep (inSpan ts k) (measuredItems ts (map itemOf rows))
+  pub gathered-span : (k : ℕ) → 0 < k → k ≤ length ts + 1 → chained rows nexts (getD heads k 0) ≡ keep (inSpan ts k) (measuredItems ts (map itemOf rows))
   unfolding measuredItems
   gathered-span k h l =
       batch-chain k (omega arith)
@@ -204,15 +203,15 @@ module _ (ts : List Track) (rows : List Row) (heads nexts : List ℕ)
   pub gathered-one : chained rows nexts (getD heads 1 0) ≡ keep (inOneTrack ts) (measuredItems ts (map itemOf rows))
   gathered-one = gathered-span 1 (omega arith) (omega arith)
 
-  pub gathered-last : chained rows nexts (getD heads frBatch 0) ≡ keep (onFr ts) (measuredItems ts (map itemOf rows))
+  pub gathered-last : chained rows nexts (getD heads (frBatch (length ts)) 0) ≡ keep (onFr ts) (measuredItems ts (map itemOf rows))
   unfolding measuredItems
   gathered-last =
-      batch-chain frBatch (omega arith)
-      ∙ flat-map-tests complete (ItemFits (length ts)) (inBatch ts frBatch) (isMeasured ts) (onFr ts)
+      batch-chain (frBatch (length ts)) (omega arith)
+      ∙ flat-map-tests complete (ItemFits (length ts)) (inBatch ts (frBatch (length ts))) (isMeasured ts) (onFr ts)
       (λ (i : Item) (f : ItemFits (length ts) i). item-at-last ts i (omega (arith, f .0)))
       (map itemOf rows) fits
 
-  batch-fits : (k : ℕ) → 0 < k → k < batches → ChainFits (length ts) rows nexts (getD heads k 0)
+  batch-fits : (k : ℕ) → 0 < k → k < batches (length ts) → ChainFits (length ts) rows nexts (getD heads k 0)
   batch-fits k h l = record {
     long = g .long;
     rising = g .rising;
@@ -221,7 +220,7 @@ module _ (ts : List Track) (rows : List Row) (heads nexts : List ℕ)
         (keep-all (ItemFits (length ts)) (inBatch ts k) (map itemOf rows) fits));
   }
 
-  batch-whole : (k : ℕ) → 0 < k → k < batches → Whole rows nexts (getD heads k 0)
+  batch-whole : (k : ℕ) → 0 < k → k < batches (length ts) → Whole rows nexts (getD heads k 0)
   unfolding All chainItems
   batch-whole k h l inside =
       (measuredOf (itemOf (getD rows (getD heads k 0) [])), chained rows nexts (getD nexts (getD heads k 0) 0), chained-next rows nexts (getD heads k 0) (g .rising) short ∙ ap (_++ chained rows nexts (getD nexts (getD heads k 0) 0)) whole)

@@ -5,8 +5,8 @@ use mathlib.Core.List.{List}
 use Prim.Native.Nat.{ℕ, _+_, _≤_, _<_}
 use native.Mathlib.Omega.{arith}
 use lib.Dec.{eqb}
+use lib.ListN.{length}
 use borrow.Author.Tests.{eqb-true}
-use Rattle.rounds.specs.Rule.{mostTracks}
 use Rattle.kinds.specs.declared.track.Track.{Track}
 use Rattle.kinds.specs.declared.item.Item.{Item}
 use Rattle.spanned.specs.Rule.{isMeasured, crossesFr, lacksContribution}
@@ -15,15 +15,15 @@ use Rattle.lines.specs.Chains.{frBatch, batches}
 use Rattle.chains.specs.Batches.{batchOf}
 
 -- its number by its three tests
-abbrev pub numbered : (measured lacking onFr : Bool) (span : ℕ) → ℕ
-numbered measured lacking onFr span = cond (measured && not lacking) (cond onFr frBatch span) 0
+abbrev pub numbered : (tracks : ℕ) (measured lacking onFr : Bool) (span : ℕ) → ℕ
+numbered tracks measured lacking onFr span = cond (measured && not lacking) (cond onFr (frBatch tracks) span) 0
 
 module _ (ts : List Track) (i : Item) where
   pub batch-of-lacking : lacksContribution i ≡ true → 0 ≡ batchOf ts i
   unfolding batchOf
   batch-of-lacking e = rw e (go (isMeasured ts i))
     where
-      go : (m : Bool) → 0 ≡ numbered m true (crossesFr ts i) (i .span)
+      go : (m : Bool) → 0 ≡ numbered (length ts) m true (crossesFr ts i) (i .span)
       go true = refl
       go false = refl
 
@@ -31,7 +31,7 @@ module _ (ts : List Track) (i : Item) where
   unfolding batchOf
   batch-of-unmeasured e = rw e refl
 
-  pub batch-of-last : lacksContribution i ≡ false → isMeasured ts i ≡ true → crossesFr ts i ≡ true → frBatch ≡ batchOf ts i
+  pub batch-of-last : lacksContribution i ≡ false → isMeasured ts i ≡ true → crossesFr ts i ≡ true → frBatch (length ts) ≡ batchOf ts i
   unfolding batchOf
   batch-of-last e m f = rw (e, m, f) refl
 
@@ -40,11 +40,11 @@ module _ (ts : List Track) (i : Item) where
   batch-of-span e m f = rw (e, m, f) refl
 
   -- every number has its head
-  pub batch-of-lt : (n : ℕ) → n ≤ mostTracks → ItemFits n i → batchOf ts i < batches
+  pub batch-of-lt : (n : ℕ) → n ≡ length ts → ItemFits n i → batchOf ts i < batches (length ts)
   unfolding batchOf
   batch-of-lt n h fits = go (isMeasured ts i) (lacksContribution i) (crossesFr ts i) (i .start) (i .span) (fits .0)
     where
-      go : (m l f : Bool) (start span : ℕ) → start + span ≤ n → numbered m l f span < batches
+      go : (m l f : Bool) (start span : ℕ) → start + span ≤ n → numbered (length ts) m l f span < batches (length ts)
       go true true f start span w = omega arith
       go true false true start span w = omega arith
       go true false false start span w = omega arith
@@ -55,7 +55,7 @@ module _ (ts : List Track) (i : Item) where
   unfolding batchOf
   gives-of-batch k h e = go (isMeasured ts i) (lacksContribution i) (eqb-true (batchOf ts i) k e)
     where
-      go : (m l : Bool) → numbered m l (crossesFr ts i) (i .span) ≡ k → l ≡ false
+      go : (m l : Bool) → numbered (length ts) m l (crossesFr ts i) (i .span) ≡ k → l ≡ false
       go true true e = absurd (omega arith)
       go false true e = absurd (omega arith)
       go m false e = refl

@@ -13,7 +13,6 @@ use Rattle.laws.specs.Tests.{lt-or-ge}
 use Rattle.laws.specs.Lists.{All, keep}
 use Rattle.laws.specs.Alls.{all-image-at}
 use Rattle.laws.specs.Walk.{next}
-use Rattle.rounds.specs.Rule.{mostTracks}
 use Rattle.kinds.specs.Kinds.{Row, itemOf}
 use Rattle.kinds.specs.declared.track.Track.{Track}
 use Rattle.kinds.specs.declared.item.Item.{Item}
@@ -59,14 +58,14 @@ module _ (nexts : List ℕ) (j v : ℕ) (r : Rising nexts) where
 
 pub record Chained (ts : List Track) (rows : List Row) (heads nexts : List ℕ) (i : ℕ) : Type 0 where
   pub within : i ≤ length rows
-  pub all-heads : length heads ≡ batches
+  pub all-heads : length heads ≡ batches (length ts)
   pub long : length nexts ≡ length rows
   pub rising : Rising nexts
   pub behind : (k : ℕ) → k < length heads → i ≤ getD heads k 0
   pub batch : (k : ℕ) → k < length heads → chainItems rows nexts (getD heads k 0) ≡ keep (inBatch ts k) (map itemOf (drop i rows))
 
 -- at first every chain is empty
-chained-none : (ts : List Track) (rows : List Row) (n m : ℕ) → n ≡ batches → m ≡ length rows
+chained-none : (ts : List Track) (rows : List Row) (n m : ℕ) → n ≡ batches (length ts) → m ≡ length rows
     → Chained ts rows (replicate n (length rows)) (replicate m (length rows)) (length rows)
 unfolding chainItems keep
 chained-none ts rows n m e f = record {
@@ -89,13 +88,13 @@ chained-none ts rows n m e f = record {
     start-end = rw length-replicate (omega arith)
 
 -- so it is with the lists once they are cleared
-pub chained-start : (ts : List Track) (rows : List Row) (heads₀ nexts₀ heads nexts : List ℕ) → length heads₀ ≡ batches → length nexts₀ ≡ length rows
+pub chained-start : (ts : List Track) (rows : List Row) (heads₀ nexts₀ heads nexts : List ℕ) → length heads₀ ≡ batches (length ts) → length nexts₀ ≡ length rows
     → heads ≡ replicate (length heads₀) (length rows) → nexts ≡ replicate (length nexts₀) (length rows) → Chained ts rows heads nexts (length rows)
 chained-start ts rows heads₀ nexts₀ heads nexts all long h n = rw (h, n) (chained-none ts rows (length heads₀) (length nexts₀) all long)
 
 module _ (ts : List Track) (rows : List Row) (heads nexts : List ℕ) (j : ℕ) where
   -- an item joins its batch in front
-  chained-turn : (k : ℕ) → k ≡ batchOf ts (itemOf (getD rows j [])) → k < batches → Chained ts rows heads nexts (j + 1)
+  chained-turn : (k : ℕ) → k ≡ batchOf ts (itemOf (getD rows j [])) → k < batches (length ts) → Chained ts rows heads nexts (j + 1)
       → Chained ts rows (set heads k j) (set nexts j (getD heads k 0)) j
   unfolding chainItems keep
   chained-turn k e small c = record {
@@ -160,9 +159,9 @@ chained-all ts rows heads nexts (suc i) h c = absurd (omega arith)
 
 -- the item before i, and k as its batch's number
 module _ (n : ℕ) (ts : List Track) (rows : List Row) (heads nexts : List ℕ) (i k : ℕ) (item : Item)
-    (few : n ≤ mostTracks) (fits : All (ItemFits n) (map itemOf rows)) (more : 0 < i) (c : Chained ts rows heads nexts i)
+    (few : n ≡ length ts) (fits : All (ItemFits n) (map itemOf rows)) (more : 0 < i) (c : Chained ts rows heads nexts i)
     (read : item ≡ itemOf (getD rows (i - 1) [])) (number : k ≡ batchOf ts item) where
-  pub number-lt : k < batches
+  pub number-lt : k < batches (length ts)
   number-lt = rw (number, read) (batch-of-lt ts (itemOf (getD rows (i - 1) [])) n few own)
     where
       own : ItemFits n (itemOf (getD rows (i - 1) []))

@@ -16,7 +16,7 @@ use Rattle.spanned.specs.Sound.{ItemFits}
 use Rattle.lines.specs.Chains.{Rising, chain, frBatch, batches}
 
 unfoldable pub batchOf : List Track → Item → ℕ
-batchOf ts i = cond (isMeasured ts i && not (lacksContribution i)) (cond (crossesFr ts i) frBatch (i .span)) 0
+batchOf ts i = cond (isMeasured ts i && not (lacksContribution i)) (cond (crossesFr ts i) (frBatch (length ts)) (i .span)) 0
 
 abbrev pub inBatch : List Track → ℕ → Item → Bool
 inBatch ts k i = eqb (batchOf ts i) k
@@ -34,6 +34,6 @@ pub record Gathered (ts : List Track) (rows : List Row) (heads nexts : List ℕ)
 -- what gathering asks: a head for each batch, a next beside each item, and items on tracks that are there
 pub record Gatherable (tracks items : List Row) (heads nexts : List ℕ) : Type 0 where
   pub few : length tracks ≤ mostTracks
-  pub heads-long : length heads ≡ batches
+  pub heads-long : length heads ≡ batches (length tracks)
   pub nexts-long : length nexts ≡ length items
   pub items-fit : All (ItemFits (length tracks)) (map itemOf items)

@@ -1,18 +1,25 @@
 // The items gathered into batches once: a head for each batch, and beside each item the next of its batch, so that a batch
 // costs the items in it.
 use kinds::Item;
-use kinds::Track;
 ghost use mathlib.Core.Path.{_≡_};
 ghost use mathlib.Core.List.{map};
+ghost use Prim.Native.Nat.{_≤_};
 ghost use lib.ListN.{length, replicate};
+ghost use Rattle.rounds.specs.Rule.{mostTracks};
 ghost use Rattle.kinds.specs.Kinds.{trackOf};
+ghost use Rattle.lines.specs.Chains.{frBatch};
 ghost use Rattle.chains.specs.Batches.{batchOf, Gathered, Gatherable};
 
-// The batch of the items on an fr track, past every span: it is sized last.
-pub const FR_BATCH: usize = Track::MOST + 1;
+// So many batches more than tracks: none for items without part, one for each span, 1 also where there is no track, and the last.
+pub const MORE_BATCHES: usize = 3;
 
-// The batches: none for items without part, one for each span, and that one.
-pub const BATCHES: usize = Track::MOST + 2;
+// The batch of the items on an fr track, past every span of so many tracks: it is sized last.
+pub fn fr_batch(tracks: usize) -> usize
+    requires { ⌜ tracks ≤ mostTracks ⌝ }
+    ensures { λ r. ⌜ r ≡ frBatch tracks ⌝ }
+{
+    tracks + (MORE_BATCHES - 1)
+}
 
 fn clear_to(n: usize, list: &mut [usize])
     ensures { λ _. ⌜ now (list .exit) ≡ replicate (length (now (list .entry))) n ⌝ }
@@ -26,6 +33,7 @@ fn clear_to(n: usize, list: &mut [usize])
 
 // The number of an item's batch.
 fn batch_of(item: Item, tracks: &[[u32; 4]]) -> usize
+    requires { ⌜ length (now tracks) ≤ mostTracks ⌝ }
     ensures { λ r. ⌜ r ≡ batchOf (map trackOf (now (tracks .entry))) item ⌝ }
 {
     if spanned::lacks_contribution(item) {
@@ -35,7 +43,7 @@ fn batch_of(item: Item, tracks: &[[u32; 4]]) -> usize
         return 0;
     }
     if spanned::crosses_fr(tracks, item) {
-        return FR_BATCH;
+        return fr_batch(tracks.len());
     }
     item.span as usize
 }

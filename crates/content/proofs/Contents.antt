@@ -5,7 +5,6 @@ use Prim.Native.Nat.{ℕ, zero, suc, _+_, _-_, _≤_, _<_}
 use native.Mathlib.Omega.{arith}
 use lib.ListN.{length, getD}
 use Rattle.laws.specs.Lists.{All, keep, inTurn, upFrom}
-use Rattle.rounds.specs.Rule.{mostTracks}
 use Rattle.kinds.specs.Kinds.{Row, itemOf}
 use Rattle.kinds.specs.declared.constraint.Constraint.{Constraint}
 use Rattle.kinds.specs.declared.track.Track.{Track}
@@ -40,22 +39,22 @@ up-same {S} f g k (suc n) s h =
     ap (λ (t : S). inTurn f (upFrom (k + 1) n) t) (ap (λ (q : S → S). q s) (h k (omega arith) (omega arith)))
     ∙ up-same f g (k + 1) n (g k s) (λ j a b. h j (omega arith) (omega arith))
 
-module _ (c : Constraint) (ts : List Track) (rows : List Row) (heads nexts : List ℕ) (few : length ts ≤ mostTracks) (fits : All (ItemFits (length ts)) (map itemOf rows))
-    (all : length heads ≡ batches) (g : Gathered ts rows heads nexts) where
+module _ (c : Constraint) (ts : List Track) (rows : List Row) (heads nexts : List ℕ) (fits : All (ItemFits (length ts)) (map itemOf rows))
+    (all : length heads ≡ batches (length ts)) (g : Gathered ts rows heads nexts) where
   abbrev items : List Measured
   items = measuredItems ts (map itemOf rows)
 
   pub prepared : (ls out : List Line) → ls ≡ start ts → out ≡ singles c (chained rows nexts (getD heads 1 0)) ls → out ≡ singles c (keep (inOneTrack ts) items) (start ts)
-  prepared ls out s o = o ∙ ap₂ (singles c) (gathered-one ts rows heads nexts few fits all g) s
+  prepared ls out s o = o ∙ ap₂ (singles c) (gathered-one ts rows heads nexts fits all g) s
 
   pub content-made : (n : ℕ) (ls out : List Line) → n ≡ length ts → ls ≡ singles c (keep (inOneTrack ts) items) (start ts)
-      → out ≡ missing (batched c (chained rows nexts (getD heads frBatch 0)) (inTurn (λ (k : ℕ). batched c (chained rows nexts (getD heads k 0))) (upFrom 2 (n - 1)) ls))
+      → out ≡ missing (batched c (chained rows nexts (getD heads (frBatch n) 0)) (inTurn (λ (k : ℕ). batched c (chained rows nexts (getD heads k 0))) (upFrom 2 (n - 1)) ls))
       → out ≡ content c ts items
   unfolding content longer lastBatch
   content-made n ls out e l o =
       o
-      ∙ ap (λ (is : List Measured). missing (batched c is (inTurn (λ (k : ℕ). batched c (chained rows nexts (getD heads k 0))) (upFrom 2 (n - 1)) ls))) (gathered-last ts rows heads nexts few fits all g)
+      ∙ ap (λ (is : List Measured). missing (batched c is (inTurn (λ (k : ℕ). batched c (chained rows nexts (getD heads k 0))) (upFrom 2 (n - 1)) ls))) (ap (λ (k : ℕ). chained rows nexts (getD heads (frBatch k) 0)) e ∙ gathered-last ts rows heads nexts fits all g)
       ∙ ap (λ (ms : List Line). missing (batched c (keep (onFr ts) items) ms))
       (ap₂ (λ (m : ℕ) (ms : List Line). inTurn (λ (k : ℕ). batched c (chained rows nexts (getD heads k 0))) (upFrom 2 (m - 1)) ms) e l
       ∙ up-same (λ (k : ℕ). batched c (chained rows nexts (getD heads k 0))) (λ (k : ℕ). batched c (keep (inSpan ts k) items)) 2 (length ts - 1) (singles c (keep (inOneTrack ts) items) (start ts))
-      (λ j a b. ap (batched c) (gathered-span ts rows heads nexts few fits all g j (omega arith) (omega arith))))
+      (λ j a b. ap (batched c) (gathered-span ts rows heads nexts fits all g j (omega arith) (omega arith))))

@@ -14,7 +14,7 @@ use Rattle.spans.specs.Work.{longerLines}
 
 -- a head for each batch, a next beside each item; beside each track a line, no increase and scratch; and a total more than tracks
 pub record Store (tracks items : List Row) (heads nexts : List ℕ) (lines : List Row) (increases gains rests : List ℕ) (sums : List Row) : Type 0 where
-  pub heads-long : length heads ≡ batches
+  pub heads-long : length heads ≡ batches (length tracks)
   pub nexts-long : length nexts ≡ length items
   pub lines-long : length lines ≡ length tracks
   pub none : NoIncrease tracks increases
@@ -28,7 +28,7 @@ preparedLines c tracks items = singles c (keep (inOneTrack (map trackOf tracks))
 
 -- steps 3 and 4, from the chains of the batches
 abbrev pub spreadLines : Constraint → List Row → (heads nexts : List ℕ) → List Row → List Line
-spreadLines c items heads nexts lines = missing (batched c (batchAt items heads nexts frBatch) (longerLines c items heads nexts lines))
+spreadLines c items heads nexts lines = missing (batched c (batchAt items heads nexts (frBatch (length lines))) (longerLines c items heads nexts lines))
 
 -- steps 1 to 4
 abbrev pub contentLines : Constraint → (tracks items : List Row) → List Line

@@ -1,6 +1,6 @@
 // Steps 1 to 4 of the sizing: the sizes that content asks (lines/specs/Rule.antt is the rule). Its one call is for the sizing and says what
 // it asks.
-use chains::FR_BATCH;
+use chains::fr_batch;
 use chains::gather;
 use kinds::Constraint;
 use letters::tally;
@@ -82,9 +82,10 @@ fn spread(
         rests,
         sums,
     );
+    let last = fr_batch(lines.len());
     batched(
         constraint,
-        heads[FR_BATCH],
+        heads[last],
         nexts,
         items,
         lines,

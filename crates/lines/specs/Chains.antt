@@ -7,7 +7,6 @@ use mathlib.Core.Bool.{cond}
 use mathlib.Core.List.{List, [], _∷_, flatMap}
 use lib.Dec.{ltb}
 use lib.ListN.{length, getD}
-use Rattle.rounds.specs.Rule.{mostTracks}
 use Rattle.kinds.specs.Kinds.{Row, itemOf}
 use Rattle.lines.specs.declared.measured.Measured.{Measured}
 use Rattle.lines.specs.Rule.{complete}
@@ -43,13 +42,14 @@ pub record ChainFits (n : ℕ) (items : List Row) (nexts : List ℕ) (first : �
 abbrev pub Whole : List Row → List ℕ → ℕ → Type 0
 Whole items nexts first = first < length items → (i : Measured) × (is : List Measured) × (chained items nexts first ≡ i ∷ is)
 
--- ---- The batches by number: none for items without part, one for each span, and the last for items on an fr track
+-- ---- The batches by number, on a board of so many tracks: none for items without part, one for each span, 1 also where there is no track, and
+-- the last for items on an fr track
 
-abbrev pub frBatch : ℕ
-frBatch = mostTracks + 1
+abbrev pub frBatch : ℕ → ℕ
+frBatch tracks = tracks + 2
 
-abbrev pub batches : ℕ
-batches = mostTracks + 2
+abbrev pub batches : ℕ → ℕ
+batches tracks = tracks + 3
 
 -- `heads` has the first item of each
 abbrev pub batchAt : List Row → (heads nexts : List ℕ) → ℕ → List Measured
@@ -57,6 +57,6 @@ batchAt items heads nexts k = chained items nexts (getD heads k 0)
 
 -- every batch but the first fits a board of n tracks
 pub record BatchesFit (n : ℕ) (items : List Row) (heads nexts : List ℕ) : Type 0 where
-  pub heads-long : length heads ≡ batches
-  pub fits : (k : ℕ) → 0 < k → k < batches → ChainFits n items nexts (getD heads k 0)
-  pub whole : (k : ℕ) → 0 < k → k < batches → Whole items nexts (getD heads k 0)
+  pub heads-long : length heads ≡ batches n
+  pub fits : (k : ℕ) → 0 < k → k < batches n → ChainFits n items nexts (getD heads k 0)
+  pub whole : (k : ℕ) → 0 < k → k < batches n → Whole items nexts (getD heads k 0)

@@ -12,6 +12,9 @@ use Rattle.sizing.specs.Store.{Store}
 
 module _ {tracks items lines sums : List Row} {heads nexts increases gains rests : List ℕ} {held : List Bool} (store : Store tracks items heads nexts lines increases gains rests sums held)
     (n m : ℕ) (h : n ≤ length tracks) (k : m ≤ length items) where
+  pub heads-fit : n + 3 ≤ length heads
+  heads-fit = omega (arith, store .of-content .heads-long)
+
   pub nexts-fit : m ≤ length nexts
   nexts-fit = omega (arith, store .of-content .nexts-long)
 
@@ -34,11 +37,11 @@ module _ {tracks items lines sums : List Row} {heads nexts increases gains rests
   held-fit = omega (arith, store .held-long)
 
   pub store-front : (ts is : List Row) → length ts ≡ n → length is ≡ m
-      → Store ts is heads (take m nexts) (take n lines) (take n increases) (take n gains) (take n rests) (take (n + 1) sums) (take n held)
+      → Store ts is (take (n + 3) heads) (take m nexts) (take n lines) (take n increases) (take n gains) (take n rests) (take (n + 1) sums) (take n held)
   store-front ts is tracks-are items-are =
       record {
         of-content = record {
-          heads-long = store .of-content .heads-long;
+          heads-long = length-take-le (n + 3) heads heads-fit ∙ ap (_+ 3) (sym tracks-are);
           nexts-long = length-take-le m nexts nexts-fit ∙ sym items-are;
           lines-long = length-take-le n lines lines-fit ∙ sym tracks-are;
           none = ap (take n) (store .of-content .none) ∙ take-replicate n (length tracks) 0 h ∙ ap (λ (j : ℕ). replicate j 0) (sym tracks-are);

@@ -4,7 +4,7 @@ mod dots;
 mod finish;
 mod free;
 
-use chains::FR_BATCH;
+use chains::fr_batch;
 use content::content;
 use dots::maximise;
 use finish::finish;
@@ -56,7 +56,8 @@ pub fn size(
         sums,
     );
     let rounds = maximise(constraint, lines, increases, rests);
-    let first = heads[FR_BATCH];
+    let last = fr_batch(tracks.len());
+    let first = heads[last];
     let free = finish(
         expansion,
         asked,

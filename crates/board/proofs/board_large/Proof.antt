@@ -51,7 +51,7 @@ board-with-requires c κs =
       enough = large-rows (s .args .bytes .now) (replicate mostTracks (replicate 4 0)) (replicate mostItems (replicate 7 0)) rows records;
       of-sizing = record {
         of-content = record {
-          heads-long = length-replicate {A = ℕ} batches 0;
+          heads-long = length-replicate {A = ℕ} (mostTracks + 3) 0 ∙ ap batches (sym rows);
           nexts-long = length-replicate {A = ℕ} mostItems 0 ∙ sym records;
           lines-long = length-replicate {A = List ℕ} mostTracks (replicate 8 0) ∙ sym rows;
           none = ap (λ (n : ℕ). replicate n 0) (sym rows);

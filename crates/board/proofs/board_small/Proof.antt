@@ -50,7 +50,7 @@ board-with-requires c κs =
       enough = small-rows (s .args .bytes .now) (replicate few (replicate 4 0)) (replicate few (replicate 7 0)) (s .pre) rows records;
       of-sizing = record {
         of-content = record {
-          heads-long = length-replicate {A = ℕ} batches 0;
+          heads-long = length-replicate {A = ℕ} (few + 3) 0 ∙ ap batches (sym rows);
           nexts-long = length-replicate {A = ℕ} few 0 ∙ sym records;
           lines-long = length-replicate {A = List ℕ} few (replicate 8 0) ∙ sym rows;
           none = ap (λ (n : ℕ). replicate n 0) (sym rows);

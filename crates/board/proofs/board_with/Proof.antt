@@ -2,7 +2,7 @@
 use borrow.Author.Needs.{needs}
 use mathlib.Core.Path.{sym}
 use lib.Seq.{length-take-le}
-use Rattle.sizing.proofs.Cut.{nexts-fit, lines-fit, increases-fit, gains-fit, rests-fit, sums-fit, held-fit, store-front}
+use Rattle.sizing.proofs.Cut.{heads-fit, nexts-fit, lines-fit, increases-fit, gains-fit, rests-fit, sums-fit, held-fit, store-front}
 use Rattle.board.proofs.ReadBoard.{BoardRead, sheet-refused, sheet-refused-own, board-read, board-of-sheet}
 use Rattle.board.proofs.board_with.Statement.{statement}
 use Rattle.board.proofs.board_with.Tie as tie
@@ -31,6 +31,9 @@ read-at c =
     let told = c .before .read3 .given in
     board-read (a .bytes .now) (a .tracks .now) (a .items .now) (s .pre .enough) (read .last .1 .0) (read .last .1 .1 .0) (read .result) (told .0 .0) (told .0 .1 .0) (told .0 .1 .1 .0) (told .1) (read .ensures) (read .kept .1 .0) (read .kept .1 .1 .0)
 
+add-batches : tie.Need-add-batches
+add-batches c = let few = read-at c .fewTracks in search needs
+
 add-totals : tie.Need-add-totals
 add-totals c = let few = read-at c .fewTracks in search needs
 
@@ -48,58 +51,66 @@ slice-aggregate-lay-out-2 c = sym (length-take-le _ _ (read-at (c .before .befor
 
 slice-relend-prefix-lay-out : tie.Need-slice-relend-prefix-lay-out
 slice-relend-prefix-lay-out c =
-    nexts-fit (c .before .before .before .before .before .before .before .before .before .before .before .before .before .before .before .before .before .before .pre .of-sizing) (c .before .before .before .before .read3 .given .0 .1 .0) (c .before .before .before .before .read3 .given .0 .1 .1 .0) ((read-at (c .before .before .before)) .tracksFit) ((read-at (c .before .before .before)) .itemsFit)
+    heads-fit (c .before .before .before .before .before .before .before .before .before .before .before .before .before .before .before .before .before .pre .of-sizing) (c .before .before .before .read3 .given .0 .1 .0) (c .before .before .before .read3 .given .0 .1 .1 .0) ((read-at (c .before .before)) .tracksFit) ((read-at (c .before .before)) .itemsFit)
 
 slice-aggregate-lay-out-3 : tie.Need-slice-aggregate-lay-out-3
 slice-aggregate-lay-out-3 c =
-    sym (length-take-le _ _ (nexts-fit (c .before .before .before .before .before .before .before .before .before .before .before .before .before .before .before .before .before .before .before .pre .of-sizing) (c .before .before .before .before .before .read3 .given .0 .1 .0) (c .before .before .before .before .before .read3 .given .0 .1 .1 .0) ((read-at (c .before .before .before .before)) .tracksFit) ((read-at (c .before .before .before .before)) .itemsFit)))
+    sym (length-take-le _ _ (heads-fit (c .before .before .before .before .before .before .before .before .before .before .before .before .before .before .before .before .before .before .pre .of-sizing) (c .before .before .before .before .read3 .given .0 .1 .0) (c .before .before .before .before .read3 .given .0 .1 .1 .0) ((read-at (c .before .before .before)) .tracksFit) ((read-at (c .before .before .before)) .itemsFit)))
 
 slice-relend-prefix-lay-out-2 : tie.Need-slice-relend-prefix-lay-out-2
 slice-relend-prefix-lay-out-2 c =
-    lines-fit (c .before .before .before .before .before .before .before .before .before .before .before .before .before .before .before .before .before .before .before .pre .of-sizing) (c .before .before .before .before .before .read3 .given .0 .1 .0) (c .before .before .before .before .before .read3 .given .0 .1 .1 .0) ((read-at (c .before .before .before .before)) .tracksFit) ((read-at (c .before .before .before .before)) .itemsFit)
+    nexts-fit (c .before .before .before .before .before .before .before .before .before .before .before .before .before .before .before .before .before .before .pre .of-sizing) (c .before .before .before .before .read3 .given .0 .1 .0) (c .before .before .before .before .read3 .given .0 .1 .1 .0) ((read-at (c .before .before .before)) .tracksFit) ((read-at (c .before .before .before)) .itemsFit)
 
 slice-aggregate-lay-out-4 : tie.Need-slice-aggregate-lay-out-4
 slice-aggregate-lay-out-4 c =
-    sym (length-take-le _ _ (lines-fit (c .before .before .before .before .before .before .before .before .before .before .before .before .before .before .before .before .before .before .before .before .pre .of-sizing) (c .before .before .before .before .before .before .read3 .given .0 .1 .0) (c .before .before .before .before .before .before .read3 .given .0 .1 .1 .0) ((read-at (c .before .before .before .before .before)) .tracksFit) ((read-at (c .before .before .before .before .before)) .itemsFit)))
+    sym (length-take-le _ _ (nexts-fit (c .before .before .before .before .before .before .before .before .before .before .before .before .before .before .before .before .before .before .before .pre .of-sizing) (c .before .before .before .before .before .read3 .given .0 .1 .0) (c .before .before .before .before .before .read3 .given .0 .1 .1 .0) ((read-at (c .before .before .before .before)) .tracksFit) ((read-at (c .before .before .before .before)) .itemsFit)))
 
 slice-relend-prefix-lay-out-3 : tie.Need-slice-relend-prefix-lay-out-3
 slice-relend-prefix-lay-out-3 c =
-    increases-fit (c .before .before .before .before .before .before .before .before .before .before .before .before .before .before .before .before .before .before .before .before .pre .of-sizing) (c .before .before .before .before .before .before .read3 .given .0 .1 .0) (c .before .before .before .before .before .before .read3 .given .0 .1 .1 .0) ((read-at (c .before .before .before .before .before)) .tracksFit) ((read-at (c .before .before .before .before .before)) .itemsFit)
+    lines-fit (c .before .before .before .before .before .before .before .before .before .before .before .before .before .before .before .before .before .before .before .pre .of-sizing) (c .before .before .before .before .before .read3 .given .0 .1 .0) (c .before .before .before .before .before .read3 .given .0 .1 .1 .0) ((read-at (c .before .before .before .before)) .tracksFit) ((read-at (c .before .before .before .before)) .itemsFit)
 
 slice-aggregate-lay-out-5 : tie.Need-slice-aggregate-lay-out-5
 slice-aggregate-lay-out-5 c =
-    sym (length-take-le _ _ (increases-fit (c .before .before .before .before .before .before .before .before .before .before .before .before .before .before .before .before .before .before .before .before .before .pre .of-sizing) (c .before .before .before .before .before .before .before .read3 .given .0 .1 .0) (c .before .before .before .before .before .before .before .read3 .given .0 .1 .1 .0) ((read-at (c .before .before .before .before .before .before)) .tracksFit) ((read-at (c .before .before .before .before .before .before)) .itemsFit)))
+    sym (length-take-le _ _ (lines-fit (c .before .before .before .before .before .before .before .before .before .before .before .before .before .before .before .before .before .before .before .before .pre .of-sizing) (c .before .before .before .before .before .before .read3 .given .0 .1 .0) (c .before .before .before .before .before .before .read3 .given .0 .1 .1 .0) ((read-at (c .before .before .before .before .before)) .tracksFit) ((read-at (c .before .before .before .before .before)) .itemsFit)))
 
 slice-relend-prefix-lay-out-4 : tie.Need-slice-relend-prefix-lay-out-4
 slice-relend-prefix-lay-out-4 c =
-    gains-fit (c .before .before .before .before .before .before .before .before .before .before .before .before .before .before .before .before .before .before .before .before .before .pre .of-sizing) (c .before .before .before .before .before .before .before .read3 .given .0 .1 .0) (c .before .before .before .before .before .before .before .read3 .given .0 .1 .1 .0) ((read-at (c .before .before .before .before .before .before)) .tracksFit) ((read-at (c .before .before .before .before .before .before)) .itemsFit)
+    increases-fit (c .before .before .before .before .before .before .before .before .before .before .before .before .before .before .before .before .before .before .before .before .pre .of-sizing) (c .before .before .before .before .before .before .read3 .given .0 .1 .0) (c .before .before .before .before .before .before .read3 .given .0 .1 .1 .0) ((read-at (c .before .before .before .before .before)) .tracksFit) ((read-at (c .before .before .before .before .before)) .itemsFit)
 
 slice-aggregate-lay-out-6 : tie.Need-slice-aggregate-lay-out-6
 slice-aggregate-lay-out-6 c =
-    sym (length-take-le _ _ (gains-fit (c .before .before .before .before .before .before .before .before .before .before .before .before .before .before .before .before .before .before .before .before .before .before .pre .of-sizing) (c .before .before .before .before .before .before .before .before .read3 .given .0 .1 .0) (c .before .before .before .before .before .before .before .before .read3 .given .0 .1 .1 .0) ((read-at (c .before .before .before .before .before .before .before)) .tracksFit) ((read-at (c .before .before .before .before .before .before .before)) .itemsFit)))
+    sym (length-take-le _ _ (increases-fit (c .before .before .before .before .before .before .before .before .before .before .before .before .before .before .before .before .before .before .before .before .before .pre .of-sizing) (c .before .before .before .before .before .before .before .read3 .given .0 .1 .0) (c .before .before .before .before .before .before .before .read3 .given .0 .1 .1 .0) ((read-at (c .before .before .before .before .before .before)) .tracksFit) ((read-at (c .before .before .before .before .before .before)) .itemsFit)))
 
 slice-relend-prefix-lay-out-5 : tie.Need-slice-relend-prefix-lay-out-5
 slice-relend-prefix-lay-out-5 c =
-    rests-fit (c .before .before .before .before .before .before .before .before .before .before .before .before .before .before .before .before .before .before .before .before .before .before .pre .of-sizing) (c .before .before .before .before .before .before .before .before .read3 .given .0 .1 .0) (c .before .before .before .before .before .before .before .before .read3 .given .0 .1 .1 .0) ((read-at (c .before .before .before .before .before .before .before)) .tracksFit) ((read-at (c .before .before .before .before .before .before .before)) .itemsFit)
+    gains-fit (c .before .before .before .before .before .before .before .before .before .before .before .before .before .before .before .before .before .before .before .before .before .pre .of-sizing) (c .before .before .before .before .before .before .before .read3 .given .0 .1 .0) (c .before .before .before .before .before .before .before .read3 .given .0 .1 .1 .0) ((read-at (c .before .before .before .before .before .before)) .tracksFit) ((read-at (c .before .before .before .before .before .before)) .itemsFit)
 
 slice-aggregate-lay-out-7 : tie.Need-slice-aggregate-lay-out-7
 slice-aggregate-lay-out-7 c =
-    sym (length-take-le _ _ (rests-fit (c .before .before .before .before .before .before .before .before .before .before .before .before .before .before .before .before .before .before .before .before .before .before .before .pre .of-sizing) (c .before .before .before .before .before .before .before .before .before .read3 .given .0 .1 .0) (c .before .before .before .before .before .before .before .before .before .read3 .given .0 .1 .1 .0) ((read-at (c .before .before .before .before .before .before .before .before)) .tracksFit) ((read-at (c .before .before .before .before .before .before .before .before)) .itemsFit)))
+    sym (length-take-le _ _ (gains-fit (c .before .before .before .before .before .before .before .before .before .before .before .before .before .before .before .before .before .before .before .before .before .before .pre .of-sizing) (c .before .before .before .before .before .before .before .before .read3 .given .0 .1 .0) (c .before .before .before .before .before .before .before .before .read3 .given .0 .1 .1 .0) ((read-at (c .before .before .before .before .before .before .before)) .tracksFit) ((read-at (c .before .before .before .before .before .before .before)) .itemsFit)))
 
 slice-relend-prefix-lay-out-6 : tie.Need-slice-relend-prefix-lay-out-6
 slice-relend-prefix-lay-out-6 c =
-    sums-fit (c .before .before .before .before .before .before .before .before .before .before .before .before .before .before .before .before .before .before .before .before .before .before .before .pre .of-sizing) (c .before .before .before .before .before .before .before .before .before .read3 .given .0 .1 .0) (c .before .before .before .before .before .before .before .before .before .read3 .given .0 .1 .1 .0) ((read-at (c .before .before .before .before .before .before .before .before)) .tracksFit) ((read-at (c .before .before .before .before .before .before .before .before)) .itemsFit)
+    rests-fit (c .before .before .before .before .before .before .before .before .before .before .before .before .before .before .before .before .before .before .before .before .before .before .pre .of-sizing) (c .before .before .before .before .before .before .before .before .read3 .given .0 .1 .0) (c .before .before .before .before .before .before .before .before .read3 .given .0 .1 .1 .0) ((read-at (c .before .before .before .before .before .before .before)) .tracksFit) ((read-at (c .before .before .before .before .before .before .before)) .itemsFit)
 
 slice-aggregate-lay-out-8 : tie.Need-slice-aggregate-lay-out-8
 slice-aggregate-lay-out-8 c =
-    sym (length-take-le _ _ (sums-fit (c .before .before .before .before .before .before .before .before .before .before .before .before .before .before .before .before .before .before .before .before .before .before .before .before .pre .of-sizing) (c .before .before .before .before .before .before .before .before .before .before .read3 .given .0 .1 .0) (c .before .before .before .before .before .before .before .before .before .before .read3 .given .0 .1 .1 .0) ((read-at (c .before .before .before .before .before .before .before .before .before)) .tracksFit) ((read-at (c .before .before .before .before .before .before .before .before .before)) .itemsFit)))
+    sym (length-take-le _ _ (rests-fit (c .before .before .before .before .before .before .before .before .before .before .before .before .before .before .before .before .before .before .before .before .before .before .before .pre .of-sizing) (c .before .before .before .before .before .before .before .before .before .read3 .given .0 .1 .0) (c .before .before .before .before .before .before .before .before .before .read3 .given .0 .1 .1 .0) ((read-at (c .before .before .before .before .before .before .before .before)) .tracksFit) ((read-at (c .before .before .before .before .before .before .before .before)) .itemsFit)))
 
 slice-relend-prefix-lay-out-7 : tie.Need-slice-relend-prefix-lay-out-7
 slice-relend-prefix-lay-out-7 c =
-    held-fit (c .before .before .before .before .before .before .before .before .before .before .before .before .before .before .before .before .before .before .before .before .before .before .before .before .pre .of-sizing) (c .before .before .before .before .before .before .before .before .before .before .read3 .given .0 .1 .0) (c .before .before .before .before .before .before .before .before .before .before .read3 .given .0 .1 .1 .0) ((read-at (c .before .before .before .before .before .before .before .before .before)) .tracksFit) ((read-at (c .before .before .before .before .before .before .before .before .before)) .itemsFit)
+    sums-fit (c .before .before .before .before .before .before .before .before .before .before .before .before .before .before .before .before .before .before .before .before .before .before .before .pre .of-sizing) (c .before .before .before .before .before .before .before .before .before .read3 .given .0 .1 .0) (c .before .before .before .before .before .before .before .before .before .read3 .given .0 .1 .1 .0) ((read-at (c .before .before .before .before .before .before .before .before)) .tracksFit) ((read-at (c .before .before .before .before .before .before .before .before)) .itemsFit)
 
 slice-aggregate-lay-out-9 : tie.Need-slice-aggregate-lay-out-9
 slice-aggregate-lay-out-9 c =
+    sym (length-take-le _ _ (sums-fit (c .before .before .before .before .before .before .before .before .before .before .before .before .before .before .before .before .before .before .before .before .before .before .before .before .pre .of-sizing) (c .before .before .before .before .before .before .before .before .before .before .read3 .given .0 .1 .0) (c .before .before .before .before .before .before .before .before .before .before .read3 .given .0 .1 .1 .0) ((read-at (c .before .before .before .before .before .before .before .before .before)) .tracksFit) ((read-at (c .before .before .before .before .before .before .before .before .before)) .itemsFit)))
+
+slice-relend-prefix-lay-out-8 : tie.Need-slice-relend-prefix-lay-out-8
+slice-relend-prefix-lay-out-8 c =
+    held-fit (c .before .before .before .before .before .before .before .before .before .before .before .before .before .before .before .before .before .before .before .before .before .before .before .before .pre .of-sizing) (c .before .before .before .before .before .before .before .before .before .before .read3 .given .0 .1 .0) (c .before .before .before .before .before .before .before .before .before .before .read3 .given .0 .1 .1 .0) ((read-at (c .before .before .before .before .before .before .before .before .before)) .tracksFit) ((read-at (c .before .before .before .before .before .before .before .before .before)) .itemsFit)
+
+slice-aggregate-lay-out-10 : tie.Need-slice-aggregate-lay-out-10
+slice-aggregate-lay-out-10 c =
     sym (length-take-le _ _ (held-fit (c .before .before .before .before .before .before .before .before .before .before .before .before .before .before .before .before .before .before .before .before .before .before .before .before .before .pre .of-sizing) (c .before .before .before .before .before .before .before .before .before .before .before .read3 .given .0 .1 .0) (c .before .before .before .before .before .before .before .before .before .before .before .read3 .given .0 .1 .1 .0) ((read-at (c .before .before .before .before .before .before .before .before .before .before)) .tracksFit) ((read-at (c .before .before .before .before .before .before .before .before .before .before)) .itemsFit)))
 
 lay-out-requires : tie.Need-lay-out-requires
@@ -171,6 +182,7 @@ board-with-spec =
     read-requires
     enum-known-read
     enum-known-read-2
+    add-batches
     add-totals
     slice-reshare-prefix-lay-out
     slice-aggregate-lay-out
@@ -190,6 +202,8 @@ board-with-spec =
     slice-aggregate-lay-out-8
     slice-relend-prefix-lay-out-7
     slice-aggregate-lay-out-9
+    slice-relend-prefix-lay-out-8
+    slice-aggregate-lay-out-10
     lay-out-requires
     of-layout-requires
     same-length

@@ -1,8 +1,11 @@
 -- `batch_of` puts an item into its batch. Assumes nothing.
 use borrow.Author.Needs.{needs}
 use Rattle.chains.proofs.batch_of.Statement.{statement}
-use mathlib.Core.Path.{sym, _∙_}
+use mathlib.Core.Path.{sym, ap, _∙_}
+use lib.ListN.{length-map}
 use borrow.Author.Tests.{not-true, not-false}
+use Rattle.kinds.specs.Kinds.{trackOf}
+use Rattle.lines.specs.Chains.{frBatch}
 use Rattle.chains.proofs.Numbers.{batch-of-lacking, batch-of-unmeasured, batch-of-last, batch-of-span}
 use Rattle.chains.proofs.batch_of.Tie as tie
 
@@ -21,10 +24,15 @@ returns-2 c = batch-of-unmeasured _ _ (sym (c .before .is-measured .ensures) ∙
 crosses-fr-requires : tie.Need-crosses-fr-requires
 crosses-fr-requires c κs = search needs
 
+fr-batch-requires : tie.Need-fr-batch-requires
+fr-batch-requires c κs = search needs
+
 returns-3 : tie.Need-returns-3
 returns-3 c =
-    batch-of-last _ _ (sym (c .before .before .before .before .before .lacks-contribution .ensures) ∙ c .before .before .before .before .if1 .left)
-    (sym (c .before .before .before .is-measured .ensures) ∙ not-false _ (c .before .before .if2 .left)) (sym (c .before .crosses-fr .ensures) ∙ c .if3 .taken)
+    c .fr-batch .ensures
+    ∙ ap frBatch (sym (length-map (c .before .before .before .before .before .before .before .args .tracks .now) trackOf))
+    ∙ batch-of-last _ _ (sym (c .before .before .before .before .before .before .lacks-contribution .ensures) ∙ c .before .before .before .before .before .if1 .left)
+    (sym (c .before .before .before .before .is-measured .ensures) ∙ not-false _ (c .before .before .before .if2 .left)) (sym (c .before .before .crosses-fr .ensures) ∙ c .before .if3 .taken)
 
 cast-result : tie.Need-cast-result
 cast-result c = search needs
@@ -43,6 +51,7 @@ batch-of-spec =
     is-measured-requires
     returns-2
     crosses-fr-requires
+    fr-batch-requires
     returns-3
     cast-result
     returns-4)

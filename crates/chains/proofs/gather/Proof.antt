@@ -1,9 +1,11 @@
 -- `gather` takes the items from the last to the first, each in front of its batch. Assumes nothing.
 use borrow.Author.Needs.{needs}
 use Rattle.chains.proofs.gather.Statement.{statement}
+use mathlib.Core.Path.{sym, ap, _∙_}
 use mathlib.Core.List.{map}
-use lib.ListN.{length}
+use lib.ListN.{length, length-map}
 use Rattle.kinds.specs.Kinds.{trackOf}
+use Rattle.lines.specs.Chains.{batches}
 use Rattle.chains.proofs.Turns.{Chained, chained-start, number-lt, chained-before, chained-all}
 use Rattle.chains.proofs.gather.Tie as tie
 
@@ -22,7 +24,7 @@ clear-to-requires-2 c κs = search needs
 loop-holds : tie.Need-loop-holds Inv-loop μ-loop
 loop-holds c =
     let at = c .before .before .before .before .before .before .before .before .before .before in
-    chained-start (map trackOf (at .args .tracks .now)) (at .args .items .now) (at .args .heads .now) (at .args .nexts .now) _ _ (at .pre .heads-long) (at .pre .nexts-long) (c .before .before .before .before .before .before .clear-to .ensures) (c .before .before .clear-to2 .ensures)
+    chained-start (map trackOf (at .args .tracks .now)) (at .args .items .now) (at .args .heads .now) (at .args .nexts .now) _ _ (at .pre .heads-long ∙ ap batches (sym (length-map (at .args .tracks .now) trackOf))) (at .pre .nexts-long) (c .before .before .before .before .before .before .clear-to .ensures) (c .before .before .clear-to2 .ensures)
 
 sub-i : tie.Need-sub-i Inv-loop μ-loop
 sub-i c = search needs
@@ -43,14 +45,20 @@ mul-nexts : tie.Need-mul-nexts Inv-loop μ-loop
 mul-nexts c =
     let at = c .before .before .before .before .before .before .before .before .before .before .before .before .before .before .before in
     let h = c .before .before .before .before .loop in
-    let small = number-lt (length (at .args .tracks .now)) (map trackOf (at .args .tracks .now)) (at .args .items .now) (h .heads) (h .nexts) (h .i) (c .batch-of .result) (c .before .of-row .result) (at .pre .few) (at .pre .items-fit) (search needs) (h .inv) (c .before .of-row .ensures) (c .batch-of .ensures) in
+    let small = number-lt (length (at .args .tracks .now)) (map trackOf (at .args .tracks .now)) (at .args .items .now) (h .heads) (h .nexts) (h .i) (c .batch-of .result) (c .before .of-row .result) (sym (length-map (at .args .tracks .now) trackOf)) (at .pre .items-fit) (search needs) (h .inv) (c .before .of-row .ensures) (c .batch-of .ensures) in
+    let few = at .pre .few in
+    let long = length-map (at .args .tracks .now) trackOf in
+    let all = h .inv .all-heads in
     search needs
 
 slice-read-nexts : tie.Need-slice-read-nexts Inv-loop μ-loop
 slice-read-nexts c =
     let at = c .before .before .before .before .before .before .before .before .before .before .before .before .before .before .before .before in
     let h = c .before .before .before .before .before .loop in
-    let small = number-lt (length (at .args .tracks .now)) (map trackOf (at .args .tracks .now)) (at .args .items .now) (h .heads) (h .nexts) (h .i) (c .before .batch-of .result) (c .before .before .of-row .result) (at .pre .few) (at .pre .items-fit) (search needs) (h .inv) (c .before .before .of-row .ensures) (c .before .batch-of .ensures) in
+    let small = number-lt (length (at .args .tracks .now)) (map trackOf (at .args .tracks .now)) (at .args .items .now) (h .heads) (h .nexts) (h .i) (c .before .batch-of .result) (c .before .before .of-row .result) (sym (length-map (at .args .tracks .now) trackOf)) (at .pre .items-fit) (search needs) (h .inv) (c .before .before .of-row .ensures) (c .before .batch-of .ensures) in
+    let few = at .pre .few in
+    let long = length-map (at .args .tracks .now) trackOf in
+    let all = h .inv .all-heads in
     search needs
 
 mul-nexts-2 : tie.Need-mul-nexts-2 Inv-loop μ-loop
@@ -63,14 +71,20 @@ mul-heads : tie.Need-mul-heads Inv-loop μ-loop
 mul-heads c =
     let at = c .before .before .before .before .before .before .before .before .before .before .before .before .before .before .before .before in
     let h = c .before .before .before .before .before .loop in
-    let small = number-lt (length (at .args .tracks .now)) (map trackOf (at .args .tracks .now)) (at .args .items .now) (h .heads) (h .nexts) (h .i) (c .before .batch-of .result) (c .before .before .of-row .result) (at .pre .few) (at .pre .items-fit) (search needs) (h .inv) (c .before .before .of-row .ensures) (c .before .batch-of .ensures) in
+    let small = number-lt (length (at .args .tracks .now)) (map trackOf (at .args .tracks .now)) (at .args .items .now) (h .heads) (h .nexts) (h .i) (c .before .batch-of .result) (c .before .before .of-row .result) (sym (length-map (at .args .tracks .now) trackOf)) (at .pre .items-fit) (search needs) (h .inv) (c .before .before .of-row .ensures) (c .before .batch-of .ensures) in
+    let few = at .pre .few in
+    let long = length-map (at .args .tracks .now) trackOf in
+    let all = h .inv .all-heads in
     search needs
 
 slice-write-heads : tie.Need-slice-write-heads Inv-loop μ-loop
 slice-write-heads c =
     let at = c .before .before .before .before .before .before .before .before .before .before .before .before .before .before .before .before in
     let h = c .before .before .before .before .before .loop in
-    let small = number-lt (length (at .args .tracks .now)) (map trackOf (at .args .tracks .now)) (at .args .items .now) (h .heads) (h .nexts) (h .i) (c .before .batch-of .result) (c .before .before .of-row .result) (at .pre .few) (at .pre .items-fit) (search needs) (h .inv) (c .before .before .of-row .ensures) (c .before .batch-of .ensures) in
+    let small = number-lt (length (at .args .tracks .now)) (map trackOf (at .args .tracks .now)) (at .args .items .now) (h .heads) (h .nexts) (h .i) (c .before .batch-of .result) (c .before .before .of-row .result) (sym (length-map (at .args .tracks .now) trackOf)) (at .pre .items-fit) (search needs) (h .inv) (c .before .before .of-row .ensures) (c .before .batch-of .ensures) in
+    let few = at .pre .few in
+    let long = length-map (at .args .tracks .now) trackOf in
+    let all = h .inv .all-heads in
     search needs
 
 loop-less : tie.Need-loop-less Inv-loop μ-loop
@@ -80,10 +94,15 @@ loop-again : tie.Need-loop-again Inv-loop μ-loop
 loop-again c =
     let at = c .before .before .before .before .before .before .before .before .before .before .before .before .before .before .before .before in
     let h = c .before .before .before .before .before .loop in
-    chained-before (length (at .args .tracks .now)) (map trackOf (at .args .tracks .now)) (at .args .items .now) (h .heads) (h .nexts) (h .i) (c .before .batch-of .result) (c .before .before .of-row .result) (at .pre .few) (at .pre .items-fit) (search needs) (h .inv) (c .before .before .of-row .ensures) (c .before .batch-of .ensures)
+    chained-before (length (at .args .tracks .now)) (map trackOf (at .args .tracks .now)) (at .args .items .now) (h .heads) (h .nexts) (h .i) (c .before .batch-of .result) (c .before .before .of-row .result) (sym (length-map (at .args .tracks .now) trackOf)) (at .pre .items-fit) (search needs) (h .inv) (c .before .before .of-row .ensures) (c .before .batch-of .ensures)
 
 same-length : tie.Need-same-length Inv-loop μ-loop
-same-length c = search needs
+same-length c =
+    let at = c .before .before .before .before .before .before .before .before .before .before .before .before in
+    let long = length-map (at .args .tracks .now) trackOf in
+    let all = c .before .loop .inv .all-heads in
+    let lent = at .pre .heads-long in
+    search needs
 
 same-length-2 : tie.Need-same-length-2 Inv-loop μ-loop
 same-length-2 c = search needs

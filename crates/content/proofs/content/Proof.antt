@@ -2,10 +2,8 @@
 use borrow.Author.Needs.{needs}
 use mathlib.Core.Path.{_≡_, sym, _∙_, subst}
 use mathlib.Core.List.{map}
-use Prim.Native.Nat.{_≤_}
 use native.Mathlib.Omega.{arith}
 use lib.ListN.{length, length-map}
-use Rattle.rounds.specs.Rule.{mostTracks}
 use Rattle.kinds.specs.Kinds.{trackOf, itemOf}
 use Rattle.letters.proofs.Shared.{zeros-as}
 use Rattle.chains.proofs.Batches.{gathered-batches}
@@ -33,7 +31,7 @@ spread-requires c κs =
     let ts = map trackOf (a .tracks .now) in
     let long = length-map (a .tracks .now) trackOf in
     let back = sym long in
-    let few : length ts ≤ mostTracks = omega (arith, s .pre .0) in
+    let lent = z .heads-long in
     let p = c .before .before .before .before .before .before .before .before .before .before .before .before .before .prepare .ensures in
     let ls = c .before .before .before .before .before .before .before .before .before .before .before .before .before .prepare .last .1 .1 .1 .1 .1 .0 in
     let kept = c .before .before .before .before .before .before .before .before .lines .given in
@@ -47,7 +45,7 @@ spread-requires c κs =
         rests-long = z .rests-long ∙ sym same;
         totals = p .3;
       },
-      batches-fit-as (a .items .now) _ _ (same ∙ back) (gathered-batches ts (a .items .now) _ _ few (s .pre .1 .items) (search needs) (p .2)),
+      batches-fit-as (a .items .now) _ _ (same ∙ back) (gathered-batches ts (a .items .now) _ _ (s .pre .1 .items) (search needs) (p .2)),
       subst Calm (sym (p .0)) (singles-calm (a .constraint) _ ts),
     )
 
@@ -80,7 +78,7 @@ returns c =
     let ts = map trackOf (a .tracks .now) in
     let long = length-map (a .tracks .now) trackOf in
     let back = sym long in
-    let few : length ts ≤ mostTracks = omega (arith, s .pre .0) in
+    let lent = z .heads-long in
     let p = c .before .before .before .before .before .before .before .before .before .before .before .before .before .before .before .before .before .before .before .before .before .before .prepare .ensures in
     let ls = c .before .before .before .before .before .before .before .before .before .before .before .before .before .before .before .before .before .before .before .before .before .before .prepare .last .1 .1 .1 .1 .1 .0 in
     let kept = c .before .before .before .before .before .before .before .before .before .before .before .before .before .before .before .before .before .lines .given in
@@ -88,7 +86,7 @@ returns c =
     let same : length ls ≡ length (a .tracks .now) = search needs in
     let e = c .before .before .before .before .before .before .before .before .spread .ensures in
     let entry : length ls ≡ length (a .lines .now) = search needs in
-    (content-made (a .constraint) ts (a .items .now) _ _ few (s .pre .1 .items) (search needs) (p .2) (length ls) _ _ (same ∙ back) (p .0) (e .0), e .1, p .2, zeros-as {m = length ls} {n = length (a .lines .now)} (e .2) entry)
+    (content-made (a .constraint) ts (a .items .now) _ _ (s .pre .1 .items) (search needs) (p .2) (length ls) _ _ (same ∙ back) (p .0) (e .0), e .1, p .2, zeros-as {m = length ls} {n = length (a .lines .now)} (e .2) entry)
 
 pub content-spec : {M : Type 1} → statement M
 content-spec =

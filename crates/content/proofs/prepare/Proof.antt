@@ -2,10 +2,8 @@
 use borrow.Author.Needs.{needs}
 use mathlib.Core.Path.{sym, subst}
 use mathlib.Core.List.{map}
-use Prim.Native.Nat.{_≤_}
 use native.Mathlib.Omega.{arith}
 use lib.ListN.{length, length-map}
-use Rattle.rounds.specs.Rule.{mostTracks}
 use Rattle.kinds.specs.Kinds.{trackOf, itemOf}
 use Rattle.lines.specs.Fits.{LinesFit}
 use Rattle.lines.proofs.Fits.{start-fits}
@@ -30,9 +28,9 @@ singles-requires c κs =
     let a = s .args in
     let ts = map trackOf (a .tracks .now) in
     let long = length-map (a .tracks .now) trackOf in
-    let few : length ts ≤ mostTracks = omega (arith, s .pre .0 .few) in
+    let lent = s .pre .0 .heads-long in
     let back = sym long in
-    let all = gathered-batches ts (a .items .now) _ _ few (items-fit-as (map itemOf (a .items .now)) long (s .pre .0 .items-fit)) (search needs) (c .before .before .before .before .before .before .before .gather .ensures) in
+    let all = gathered-batches ts (a .items .now) _ _ (items-fit-as (map itemOf (a .items .now)) long (s .pre .0 .items-fit)) (search needs) (c .before .before .before .before .before .before .before .gather .ensures) in
     (subst LinesFit (sym (c .before .before .before .before .before .before .before .before .before .before .before .start .ensures)) (start-fits ts (s .pre .1)), chain-fits-as (a .items .now) _ _ (search needs) (all .fits 1 (omega arith) (omega arith)))
 
 tally-requires : tie.Need-tally-requires
@@ -59,10 +57,10 @@ returns c =
     let a = s .args in
     let ts = map trackOf (a .tracks .now) in
     let long = length-map (a .tracks .now) trackOf in
-    let few : length ts ≤ mostTracks = omega (arith, s .pre .0 .few) in
+    let lent = s .pre .0 .heads-long in
     let e = c .before .before .before .before .before .singles .ensures in
     let g = c .before .before .before .before .before .before .before .before .before .before .before .before .before .gather .ensures in
-    (prepared (a .constraint) ts (a .items .now) _ _ few (items-fit-as (map itemOf (a .items .now)) long (s .pre .0 .items-fit)) (search needs) g _ _ (c .before .before .before .before .before .before .before .before .before .before .before .before .before .before .before .before .before .start .ensures) (e .0), e .1, g, c .before .tally .ensures)
+    (prepared (a .constraint) ts (a .items .now) _ _ (items-fit-as (map itemOf (a .items .now)) long (s .pre .0 .items-fit)) (search needs) g _ _ (c .before .before .before .before .before .before .before .before .before .before .before .before .before .before .before .before .before .start .ensures) (e .0), e .1, g, c .before .tally .ensures)
 
 pub prepare-spec : {M : Type 1} → statement M
 prepare-spec =

@@ -54,7 +54,7 @@ batched-requires c κs =
     let two = h .inv .2 in
     let low : 0 < h .k = omega arith in
     let high : h .k ≤ length (a .lines .now) = search needs in
-    let below : h .k < batches = omega (arith, s .pre .0 .few) in
+    let below : h .k < batches (length (a .lines .now)) = omega arith in
     (h .inv .0, chain-fits-as (a .items .now) (a .nexts .now) (getD (a .heads .now) (h .k) 0) same (s .pre .1 .fits (h .k) low below), s .pre .1 .whole (h .k) low below, h .inv .4)
 
 add-k : tie.Need-add-k Inv-loop μ-loop

@@ -21,11 +21,11 @@ numbered tracks measured lacking onFr span = cond (measured && not lacking) (con
 module _ (ts : List Track) (i : Item) where
   pub batch-of-lacking : lacksContribution i ≡ true → 0 ≡ batchOf ts i
   unfolding batchOf
-  batch-of-lacking e = rw e (go (isMeasured ts i))
+  batch-of-lacking e = rw e (go (isMeasured ts i) _)
     where
-      go : (m : Bool) → 0 ≡ numbered (length ts) m true (crossesFr ts i) (i .span)
-      go true = refl
-      go false = refl
+      go : (m : Bool) (n : ℕ) → 0 ≡ cond (m && not true) n 0
+      go true n = refl
+      go false n = refl
 
   pub batch-of-unmeasured : isMeasured ts i ≡ false → 0 ≡ batchOf ts i
   unfolding batchOf

@@ -13,7 +13,7 @@ use Rattle.checks.specs.Rule.{recordFault}
 use Rattle.lines.specs.Rule.{FreeTold, Board, size}
 
 -- What a board tells: its tracks, the free space and the rounds; or the refusal. And what stands in the lent sizes after it:
--- base and limit in one place.
+-- base and limit of a track each.
 pub data BoardTold : Type 0 where
   board : (tracks : ℕ) (free : FreeTold) (rounds : ℕ) → BoardTold
   refused : (number place : ℕ) → BoardTold

@@ -1,4 +1,4 @@
-// The sizes of a case: their number, then a base and a limit each; a place may be repeated, as in 3x5 9.
+// The sizes of a case: their number, then a base and a limit each; a pair may be repeated, as in 3x5 9.
 ghost use mathlib.Core.Path.{_≡_};
 ghost use mathlib.Core.Bool.{true};
 ghost use Prim.Native.Nat.{_≤_};

@@ -1,4 +1,4 @@
--- A space, tracks and items laid out in lent sizes: sizes or a refusal. The order of refusals is the build paper's table, from 6 on;
+-- A space, tracks and items laid out into lent sizes: the sizes or a refusal. The order of refusals is the build paper's table, from 6 on;
 -- the checks, the sizing, and what the sizing reads of a sheet have their own pages. It assumes nothing of the code and it computes.
 use Prim.Native.Nat.{ℕ}
 use mathlib.Core.List.{List, map}
@@ -33,7 +33,7 @@ layoutFault s ts is sizes = first (enough (length ts) (length sizes)) (recordFau
 abbrev pub layoutSizes : Space → List SheetTrack → List Item → Board
 layoutSizes s ts is = size (s .constraint) (expansion s) (s .stretch) (map resolved ts) is
 
--- sizes stand in the first sizes, the others keep what they hold
+-- a board's sizes stand first in what was lent, the rest keeps what it holds
 abbrev pub sizedOutcome : Board → List Row → BoardOutcome
 sizedOutcome b sizes = boardOutcome (board (length (b .sizes)) (b .free) (b .rounds)) (onto (b .sizes) sizes)
 

@@ -21,7 +21,7 @@ use Rattle.letters.specs.declared.share.Share.the-variants.{Maximise, St
 abbrev pub isTaker : rule.Letter → Line → Bool
 isTaker letter l = letter .affected l && letter .takes l
 
--- a track in the share of what remains; where it is takersOnly, those that do not take it are left out
+-- a track in the share of what remains; where it is for takers only, the others are left out
 abbrev pub restOf : rule.Letter → Bool → Line → ℕ → fill.Track
 restOf letter takersOnly l gain = inFill (letter .affected l && (letter .takes l || not takersOnly)) (letter .restRoom l gain)
 

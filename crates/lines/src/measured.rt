@@ -3,6 +3,8 @@
 use kinds::ContributionKind;
 use kinds::Item;
 ghost use mathlib.Core.Path.{_≡_};
+ghost use mathlib.Core.Bool.{false};
+ghost use Rattle.spanned.specs.Rule.{lacksContribution};
 ghost use Rattle.lines.specs.Rule.{contributionAt};
 ghost use Rattle.lines.specs.Parts.{measuredOf};
 
@@ -13,8 +15,9 @@ pub struct Measured {
 }
 
 impl Measured {
-    // The item at work, of one that lacks no contribution.
+    // The item at work. Only of one that lacks no contribution: an absent one is no number.
     pub fn of(item: Item) -> Measured
+        requires { ⌜ lacksContribution item ≡ false ⌝ }
         ensures { λ r. ⌜ r ≡ measuredOf item ⌝ }
     {
         let minimum = item.amount(ContributionKind::Minimum);

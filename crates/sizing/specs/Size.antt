@@ -32,7 +32,7 @@ pub record Sizable (constraint expansion : Constraint) (tracks items : List Row)
   pub expansion-fits : ConstraintFits expansion
   pub sound : Sound (map trackOf tracks) (map itemOf items)
 
--- sizes and sizes as the rule's board has them
+-- what the code tells, and the sizes that it leaves, as the rule's board has them
 abbrev pub boardOf : Sized → List Row → Board
 boardOf done sizes = record { sizes = sizes; free = freeTold (done .free); rounds = done .rounds }
 

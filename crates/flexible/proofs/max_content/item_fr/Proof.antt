@@ -23,7 +23,7 @@ returns c =
     part-left _ (a .args .row) (c .before .before .of-row .ensures) (itemFr (linesOf (a .args .lines .now))) (a .args .fr) (sym (c .before .lacks-contribution .ensures) ∙ c .if1 .taken)
 
 of-requires : tie.Need-of-requires
-of-requires c κs = search needs
+of-requires c κs = sym (c .before .lacks-contribution .ensures) ∙ c .if1 .left
 
 cast-a : tie.Need-cast-a
 cast-a c = search needs

@@ -26,7 +26,7 @@ returns c =
     }
 
 of-requires : tie.Need-of-requires
-of-requires c κs = search needs
+of-requires c κs = sym (c .before .lacks-contribution .ensures) ∙ c .if1 .left
 
 plan-item-requires : tie.Need-plan-item-requires
 plan-item-requires c κs =

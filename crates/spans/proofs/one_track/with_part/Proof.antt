@@ -20,7 +20,7 @@ returns c =
     (part-left _ (s .args .row) (c .before .before .of-row .ensures) (withItemAt (s .args .constraint)) (linesOf (s .args .lines .now)) (sym (c .before .lacks-contribution .ensures) ∙ c .if1 .taken), s .pre .0)
 
 of-requires : tie.Need-of-requires
-of-requires c κs = search needs
+of-requires c κs = sym (c .before .lacks-contribution .ensures) ∙ c .if1 .left
 
 with-item-requires : tie.Need-with-item-requires
 with-item-requires c κs =

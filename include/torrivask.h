@@ -26,8 +26,8 @@ extern "C" {
  *       0 absent)
  * The tags behind a semicolon carry no number, and the one beside them is 0. So no number ever says that something is absent.
  *
- * Refusals. 1 to 5 front to back: the first byte at fault decides, and the place is a byte of the sheet. Then 6 to 11 by number, each of 7
- * to 11 at its lowest record: the space is 0, track t is 1 + t, item i is 1 + tracks + i.
+ * Refusals. 1 to 5 front to back: the first byte at fault decides, and the place is a byte of the sheet. Then 6 to 10 by number, each of 7
+ * to 10 at its lowest record: the space is 0, track t is 1 + t, item i is 1 + tracks + i.
  *    1  a count or a record is not wholly there; the sheet's length
  *    2  bytes follow the items; the first of them
  *    3  the space's count is not 1, or more tracks or items than above; the count's first byte
@@ -39,7 +39,7 @@ extern "C" {
  *    8  span 0, or start + span over the number of tracks
  *    9  a contribution is absent, in an item that spans a track that is not fixed at both ends
  *   10  a contribution is below an earlier one, in such an item
- *   11  an item of span 2 or more crosses an fr track
+ *   11  retired: no call gives it, and no later refusal takes it
  *   12  the lists of a fill are of unequal length, or longer than 256; place 0
  */
 
@@ -50,7 +50,7 @@ extern "C" {
 
 /* Sizes a sheet, in dots. Base and growth limit of track t become sizes[t]; those past the tracks keep what they hold. *tracks becomes the
  * number of tracks, *rounds that of the passes in which the tracks are maximised. *definite becomes whether there is a free space: where
- * there is, it goes to *free, negative for an overfull board; where there is none, *free keeps what it holds. Refuses by 1 to 11. */
+ * there is, it goes to *free, negative for an overfull board; where there is none, *free keeps what it holds. Refuses by 1 to 10. */
 uint32_t torrivask_board(const uint8_t *sheet, size_t sheet_length, uint32_t (*sizes)[2], size_t size_count, uint32_t *tracks,
                          bool *definite, int32_t *free, uint32_t *rounds, uint64_t *place);
 

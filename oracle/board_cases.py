@@ -165,7 +165,7 @@ class Cases:
 
     def heading(self):
         """How many cases there are of each kind."""
-        refused = [f'{number}: {self.kinds[f"refused {number}"]}' for number in range(1, 12)]
+        refused = [f'{number}: {self.kinds[f"refused {number}"]}' for number in range(1, 11)]
         shown = [f'{kind} {n}' for kind, n in sorted(self.kinds.items()) if kind != 'boards' and not kind.startswith('refused')]
         return f'{len(self.cases)} cases; boards {self.kinds["boards"]}; refused {", ".join(refused)}; of the boards {", ".join(shown)}'
 
@@ -287,7 +287,7 @@ def refused_by_places(c):
                          (4, with_bytes(W12, (last, 2))), (5, with_bytes(W12, (last, 0)))):
         c.add(f'{number} before it', data, 0)
     bad = sheet([(fixed(65_536), auto), (auto, fr(1_000))], [item(0, 9, 3, None, 1)])
-    c.add('before 7 to 11', bad, 1, want=(6, 0))
+    c.add('before 7 to 10', bad, 1, want=(6, 0))
 
 
 def refused_by_limits(c):
@@ -376,35 +376,24 @@ def refused_by_contributions(c):
     c.add('the lower item', sheet(AUTOS, [item(0, 1, 1, 2, 3), item(1, 1, 3, 2, 3), item(0, 2, 3, 2, 1)]), want=(10, 4))
 
 
-def refused_by_fr(c):
-    c.group = '11'
-    for t in range(3):
-        for start, span in ((0, 1), (1, 1), (2, 1), (0, 2), (1, 2), (0, 3)):
-            tracks = [(auto, auto)] * 3
-            tracks[t] = (auto, fr(1_000))
-            crosses = span > 1 and start <= t < start + span
-            c.add(f'fr track {t}, start {start} and span {span}', sheet(tracks, [item(start, span, 1, 2, 3)]), want=(11, 4) if crosses else None)
-    c.add('factor 0', sheet([(auto, auto), (auto, fr(0))], [item(0, 2, 1, 2, 3)]), want=(11, 3))
-    c.add('fixed minimum', sheet([(fixed(1), fixed(1)), (fixed(9), fr(1_000))], [item(0, 2, 1, 2, 3)]), want=(11, 3))
-    c.add('the lower item', sheet([(auto, fr(1)), (auto, auto)], [item(0, 1, 1, 2, 3), item(0, 2, 1, 2, 3), item(0, 2, 1, 2, 3)]), want=(11, 4))
-
-
 def which_refusal(c):
-    """6 to 11 by number, however their records stand."""
+    """6 to 10 by number, however their records stand."""
     c.group = 'order'
     tracks = [(auto, auto), (auto, auto), (auto, fr(1_000))]
-    seven, eight, nine, ten, eleven = item(0, 1, 1, 2, 70_000), item(3, 1, 1, 2, 3), item(0, 1, 1, None, 3), item(0, 1, 3, 2, 1), item(1, 2, 1, 2, 3)
-    bad = {7: seven, 8: eight, 9: nine, 10: ten, 11: eleven}
+    seven, eight, nine, ten, sound = item(0, 1, 1, 2, 70_000), item(3, 1, 1, 2, 3), item(0, 1, 1, None, 3), item(0, 1, 3, 2, 1), item(1, 2, 1, 2, 3)
+    bad = {7: seven, 8: eight, 9: nine, 10: ten}
     for low in bad:
         for high in bad:
             if low < high:
                 c.add(f'{low} behind {high}', sheet(tracks, [bad[high], bad[low]]), want=(low, 5))
                 c.add(f'{low} before {high}', sheet(tracks, [bad[low], bad[high]]), want=(low, 4))
-    c.add('all, from 11 down', sheet(tracks, [eleven, ten, nine, eight, seven]), want=(7, 8))
-    c.add('all but 7', sheet(tracks, [eleven, ten, nine, eight]), want=(8, 7))
+        c.add(f'{low} behind an item across fr', sheet(tracks, [sound, bad[low]]), want=(low, 5))
+        c.add(f'{low} before an item across fr', sheet(tracks, [bad[low], sound]), want=(low, 4))
+    c.add('all, from 10 down', sheet(tracks, [ten, nine, eight, seven]), want=(7, 7))
+    c.add('all but 7', sheet(tracks, [ten, nine, eight]), want=(8, 6))
     c.add('9 and 10 of one item', sheet(tracks, [item(0, 1, 9, None, 3)]), want=(9, 4))
-    c.add('9 and 11 of one item', sheet(tracks, [item(1, 2, 9, None, 3)]), want=(9, 4))
-    c.add('10 and 11 of one item', sheet(tracks, [item(1, 2, 9, 3, 3)]), want=(10, 4))
+    c.add('9 of an item across fr', sheet(tracks, [item(1, 2, 9, None, 3)]), want=(9, 4))
+    c.add('10 of an item across fr', sheet(tracks, [item(1, 2, 9, 3, 3)]), want=(10, 4))
     c.add('7 and 8 of one item', sheet(tracks, [item(9, 9, 0, 0, 65_536)]), want=(7, 4))
     c.add('8 and 9 of one item', sheet(tracks, [item(9, 9, None, None, None)]), want=(8, 4))
 
@@ -417,9 +406,7 @@ def kinds(c):
     c.group = 'kinds'
     for minimum in (fixed(15), auto, min_content, max_content):
         for maximum in (fixed(25), auto, min_content, max_content, fit(35), fr(1_500)):
-            items = [item(0, 1, 10, 20, 45), item(1, 1, 5, 8, 13)]
-            if maximum[0] != FR:
-                items.append(item(0, 2, 30, 50, 90))
+            items = [item(0, 1, 10, 20, 45), item(1, 1, 5, 8, 13), item(0, 2, 30, 50, 90)]
             for constraint, word in CONSTRAINT_WORDS:
                 for inner in (None, 120):
                     for stretch in (0, 1):
@@ -431,7 +418,7 @@ def kinds_alone(c):
     """Every minimum against every maximum, where one longer item is all there is; and behind a fixed gutter."""
     c.group = 'kinds across'
     for minimum in (fixed(15), auto, min_content, max_content):
-        for maximum in (fixed(25), auto, min_content, max_content, fit(35)):
+        for maximum in (fixed(25), auto, min_content, max_content, fit(35), fr(1_500)):
             for constraint, word in CONSTRAINT_WORDS:
                 across = [item(0, 3, 40, 71, 122)]
                 gutter = (fixed(4), fixed(4))
@@ -557,6 +544,167 @@ def factors(c):
             c.add(f'the last batch, minimum {minimum[0]}, {word}', data)
 
 
+def fr_tracks(minimum, *thousandths):
+    """A track of that minimum for each factor."""
+    return [(minimum, fr(factor)) for factor in thousandths]
+
+
+def across_fr(c):
+    """Items across fr tracks, whose bases stay as the last batch leaves them: an inner size of 0 lets nothing grow behind it."""
+    c.group = 'across fr'
+
+    def shown(name, tracks, items, bases, constraint=definite(100), **more):
+        c.add(name, sheet(tracks, items, constraint, 0), bases=bases, **more)
+
+    def across(name, thousandths, dots, bases):
+        shown(f'{name}, {dots} dots', fr_tracks(auto, *thousandths), [item(0, len(thousandths), dots, dots, dots)], bases, limits=bases)
+
+    # what an item gives to auto tracks of these factors
+    across('1fr twice', (1_000, 1_000), 30, [15, 15])
+    across('1fr twice', (1_000, 1_000), 31, [16, 15])
+    across('1fr twice', (1_000, 1_000), 0, [0, 0])
+    across('1fr and 2fr', (1_000, 2_000), 30, [10, 20])
+    across('1fr and 2fr', (1_000, 2_000), 31, [11, 20])
+    across('1fr and 2fr', (1_000, 2_000), 32, [11, 21])
+    across('2fr and 1fr', (2_000, 1_000), 31, [21, 10])
+    across('1fr three times', (1_000,) * 3, 32, [11, 11, 10])
+    across('0.25fr and 1.5fr', (250, 1_500), 70, [10, 60])
+    across('0.25fr and 1.5fr', (250, 1_500), 71, [11, 60])
+    across('0.25fr, 1.5fr and 0.25fr', (250, 1_500, 250), 80, [10, 60, 10])
+    across('0.25fr twice', (250, 250), 30, [15, 15])
+    across('1 in thousandths twice', (1, 1), 7, [4, 3])
+    across('0.333fr and 0.667fr', (333, 667), 100, [34, 66])
+    across('0fr and 1fr', (0, 1_000), 30, [0, 30])
+    across('1fr and 0fr', (1_000, 0), 30, [30, 0])
+    across('1fr, 0fr and 1fr', (1_000, 0, 1_000), 31, [16, 0, 15])
+    across('the odd dot passes 0fr by', (0, 1_000, 1_000), 31, [0, 16, 15])
+    across('0fr twice and 1fr', (0, 0, 1_000), 1, [0, 0, 1])
+    across('0fr twice', (0, 0), 31, [16, 15])
+    across('0fr three times', (0, 0, 0), 32, [11, 11, 10])
+    across('0fr three times', (0, 0, 0), 2, [1, 1, 0])
+    across('fewer dots than tracks, 1fr three times', (1_000,) * 3, 2, [1, 1, 0])
+    across('fewer dots than tracks, 5fr in front', (5_000, 1_000, 1_000), 2, [2, 0, 0])
+    across('fewer dots than tracks, 5fr behind', (1_000, 1_000, 5_000), 2, [1, 0, 1])
+    across('fewer dots than tracks, 0fr between', (0, 1_000, 0, 1_000, 1_000), 2, [0, 1, 0, 1, 0])
+    across('one dot', (1_000, 99_000), 1, [1, 0])
+    # numbers whose products pass 32 bits
+    across('the most dots, the largest factors', (99_999, 100_000, 1), 65_535, [32_768, 32_767, 0])
+    across('the most dots, 256 tracks of the largest factor', (100_000,) * 256, 65_535, [256] * 255 + [255])
+    across('the most dots, the last of 256 tracks with the least factor', (100_000,) * 255 + (1,), 65_535, [257] * 255 + [0])
+    across('the most dots, 256 tracks of 0fr', (0,) * 256, 65_535, [256] * 255 + [255])
+    across('the most dots, one factor of 256', (0,) * 200 + (100_000,) + (0,) * 55, 65_535, [0] * 200 + [65_535] + [0] * 55)
+    across('the most dots on one track', (100_000,), 65_535, [65_535])
+
+    # beside tracks that are not raised
+    fares = fr_tracks(auto, 1_000, 1_000)
+    thirty = [item(0, 3, 30, 30, 30)]
+    shown('beside a gutter', [(fixed(10), fixed(10))] + fares, thirty, [10, 10, 10])
+    shown('around a gutter', [fares[0], (fixed(10), fixed(10)), fares[1]], thirty, [10, 10, 10])
+    shown('gutters as wide as the item', [(fixed(30), fixed(30))] + fares, thirty, [30, 0, 0])
+    shown('gutters wider than the item', [(fixed(31), fixed(31))] + fares, thirty, [31, 0, 0])
+    for word, beside in (('auto', (auto, auto)), ('min-content', (min_content, min_content)), ('max-content', (max_content, max_content)),
+                         ('fit-content', (auto, fit(40))), ('auto to fixed', (auto, fixed(0)))):
+        own = [item(0, 1, 10, 10, 10)]
+        shown(f'beside {word}', [beside] + fares, thirty, [0, 15, 15], limits=[0, 15, 15])
+        shown(f'beside {word} with its own', [beside] + fares, own + thirty, [10, 10, 10], limits=[10, 10, 10])
+        shown(f'beside {word} with its own, more wanted later', [beside] + fares, own + [item(0, 3, 30, 50, 90)], [10, 10, 10], limits=[10, 10, 10])
+    shown('(e) and (f) would have raised a limit', [(auto, auto), (auto, fr(1_000))], [item(0, 2, 10, 30, 60)], [0, 10], limits=[0, 10])
+    shown('(e) and (f) would have raised limits', [(auto, max_content), (auto, fit(50)), (auto, fr(0))], [item(0, 3, 10, 70, 90)], [0, 0, 10], limits=[0, 0, 10])
+    data = sheet([(auto, auto), (auto, fr(1_000))], [item(0, 2, 10, 30, 60)], inner=100, stretch=1)
+    c.add('(e) and (f) would have raised a limit, the rest to fr', data, bases=[0, 100], limits=[0, 10], free=0)
+
+    # minima of fr tracks
+    shown('a fixed minimum takes nothing', [(fixed(5), fr(1_000)), (auto, fr(1_000))], [item(0, 2, 30, 30, 30)], [5, 25])
+    shown('a fixed minimum, its factor left out of the sum', [(fixed(0), fr(9_000)), (auto, fr(1_000)), (auto, fr(2_000))], thirty, [0, 10, 20])
+    shown('a fixed minimum beside 0fr', [(fixed(6), fr(9_000)), (auto, fr(0)), (auto, fr(0))], [item(0, 3, 31, 31, 31)], [6, 13, 12])
+    shown('fixed minima alone', [(fixed(5), fr(1_000)), (fixed(6), fr(1_000))], [item(0, 2, 30, 30, 30)], [5, 6])
+    shown('fixed minima that hold the item', [(fixed(20), fr(1_000)), (auto, fr(1_000))], [item(0, 2, 20, 20, 20)], [20, 0])
+    three = [(auto, fr(1_000)), (min_content, fr(1_000)), (max_content, fr(1_000))]
+    rising = [item(0, 3, 30, 60, 90)]
+    shown('each minimum, definite', three, rising, [10, 25, 55], limits=[10, 25, 55])
+    shown('each minimum, min-content', three, rising, [20, 20, 50], under_min, limits=[20, 20, 50])
+    shown('each minimum, max-content', three, rising, [35, 20, 35], under_max, limits=[35, 20, 35])
+    unlike = [(auto, fr(1_000)), (min_content, fr(2_000)), (max_content, fr(3_000))]
+    shown('each minimum and factor, definite', unlike, rising, [5, 22, 63])
+    shown('each minimum and factor, max-content', unlike, rising, [18, 20, 52], under_max)
+    zeros = [(auto, fr(1_000)), (min_content, fr(0)), (max_content, fr(0))]
+    shown('factors all 0 in (b) alone', zeros, [item(0, 3, 30, 61, 61)], [30, 16, 15])
+    shown('a limited contribution is not cut by the fixed', [(auto, fixed(3)), (auto, fr(1_000))], [item(0, 2, 10, 30, 60)], [0, 30], under_min)
+    shown('a limited max-content one neither', [(auto, fixed(3)), (auto, fr(1_000))], [item(0, 2, 10, 30, 60)], [3, 60], under_max)
+
+    # one batch of all spans
+    tracks = fr_tracks(auto, 1_000, 1_000, 1_000)
+    spans = [item(0, 1, 10, 10, 10), item(0, 2, 30, 30, 30), item(0, 3, 60, 60, 60)]
+    shown('spans of 1, 2 and 3 at once', tracks, spans, [20, 20, 20])
+    shown('spans of 3, 2 and 1 at once', tracks, spans[::-1], [20, 20, 20])
+    shown('the short span asks for most', tracks, [item(2, 1, 40, 40, 40), item(0, 3, 60, 60, 60)], [20, 20, 40])
+    shown('each track by another item', tracks, [item(0, 2, 50, 50, 50), item(1, 2, 70, 70, 70)], [25, 35, 35])
+    shown('each track by another item, unequal', fr_tracks(auto, 1_000, 2_000, 500), [item(0, 2, 60, 60, 60), item(1, 2, 55, 55, 55)], [20, 44, 11])
+    shown('the larger odd dots of two items', tracks, [item(0, 2, 31, 31, 31), item(1, 2, 31, 31, 31)], [16, 16, 15])
+    shown('an item across fr behind a longer one that is not', [(auto, auto)] * 3 + fares[:1], [item(2, 2, 30, 30, 30), item(0, 3, 30, 30, 30)], [10, 10, 10, 20])
+    shown('items in one fr track keep what they got', [(auto, fr(0)), (auto, fr(3_000))], [item(0, 1, 12, 20, 30), item(1, 1, 7, 8, 9)], [12, 7])
+
+
+def flexible_across(c):
+    """What items across fr tracks ask of an fr under max-content, where no inner size is given."""
+    c.group = 'fr across'
+
+    def shown(name, tracks, items, bases, constraint=definite(100)):
+        c.add(name, sheet(tracks, items, constraint, None), bases=bases, free=None)
+
+    def open_fr(*thousandths):
+        return fr_tracks(fixed(0), *thousandths)
+
+    def asks(name, tracks, dots, bases):
+        for constraint, word in CONSTRAINT_WORDS[::2]:
+            shown(f'{name}, {word}', tracks, [item(0, len(tracks), 0, 0, dots)], bases, constraint)
+
+    gutter = (fixed(10), fixed(10))
+    asks('1fr and 2fr', open_fr(1_000, 2_000), 90, [30, 60])
+    asks('1fr and 2fr, rounded down', open_fr(1_000, 2_000), 100, [33, 66])
+    asks('around a gutter', [*open_fr(1_000), gutter, *open_fr(2_000)], 100, [30, 10, 60])
+    asks('a sum below 1', open_fr(250, 500), 100, [25, 50])
+    asks('0fr and 1fr', open_fr(0, 1_000), 40, [0, 40])
+    asks('0fr twice', open_fr(0, 0), 40, [0, 0])
+    asks('a gutter wider than the item', [(fixed(50), fixed(50)), *open_fr(1_000)], 30, [50, 0])
+    asks('a track held, its base decides', [(fixed(60), fr(1_000)), *open_fr(1_000)], 100, [60, 60])
+    asks('a track held, the item decides', [(fixed(60), fr(500)), *open_fr(2_000)], 250, [60, 190])
+    asks('two held one after another', [(fixed(60), fr(500)), (fixed(49), fr(500)), *open_fr(2_000)], 300, [60, 49, 191])
+    asks('no track held', [(fixed(60), fr(3_000)), *open_fr(1_000)], 100, [75, 25])
+    asks('a base in its own factor', [(fixed(60), fr(2_000)), *open_fr(1_000)], 80, [60, 30])
+    asks('the most dots, 256 tracks of the largest factor', open_fr(*(100_000,) * 256), 65_535, [255] * 256)
+    asks('the most dots, the largest factor and the least', open_fr(100_000, 1), 65_535, [65_534, 0])
+    own = [item(0, 1, 10, 10, 40), item(0, 2, 0, 0, 100)]
+    beside = [(auto, auto), *open_fr(1_000)]
+    shown('an auto track at its limit', beside, own, [40, 60])
+    shown('an auto track below its limit', beside, own, [30, 70], definite(30))
+    shown('an auto track, max-content', beside, own, [40, 60], under_max)
+    shown('nothing grows under min-content', beside, own, [10, 0], under_min)
+    shown('the wider of two items', open_fr(1_000, 1_000, 1_000), [item(0, 2, 0, 0, 60), item(1, 2, 0, 0, 90)], [45, 45, 45])
+    shown('an item on one track above those across', open_fr(1_000, 1_000, 1_000), [item(0, 2, 0, 0, 60), item(2, 1, 0, 0, 50)], [50, 50, 50])
+    shown('an item across above one on one track', open_fr(1_000, 1_000, 1_000), [item(0, 3, 0, 0, 180), item(2, 1, 0, 0, 50)], [60, 60, 60])
+    shown('the factors outside the item do not count', open_fr(1_000, 1_000, 7_000), [item(0, 2, 0, 0, 60)], [30, 30, 210])
+    shown('behind the last batch', fr_tracks(auto, 1_000, 2_000), [item(0, 2, 10, 20, 61)], [20, 40])
+    shown('behind the last batch, max-content', fr_tracks(auto, 1_000, 2_000), [item(0, 2, 10, 20, 61)], [21, 42], under_max)
+    shown('behind the last batch, min-content', fr_tracks(auto, 1_000, 2_000), [item(0, 2, 10, 20, 61)], [7, 13], under_min)
+
+
+def across_kinds(c):
+    """An item across two fr tracks and one of each other kind, and pairs of factors: under each constraint, with and without inner size."""
+    c.group = 'across kinds'
+    neighbours = [(auto, auto), (fixed(12), fixed(12)), (auto, fit(35)), (min_content, min_content), (max_content, auto), (fixed(12), fr(700))]
+    rows = [item(0, 1, 8, 11, 19), item(2, 1, 6, 9, 40), item(0, 3, 44, 61, 97), item(1, 2, 20, 45, 62)]
+    pairs = [(1_000, 1_000), (1_000, 2_000), (250, 1_500), (0, 0), (0, 1_000), (1_000, 0), (333, 667)]
+    for constraint, word in CONSTRAINT_WORDS:
+        for inner in (None, 0, 150):
+            for beside in neighbours:
+                name = f'{beside[0][0]} to {beside[1][0]}, {word}, inner {inner}'
+                c.add(name, sheet([beside, (auto, fr(1_000)), (min_content, fr(1_500))], rows, constraint, inner, inner == 150))
+            for pair in pairs:
+                name = f'factors {pair[0]} and {pair[1]}, {word}, inner {inner}'
+                c.add(name, sheet(fr_tracks(auto, *pair) + [(fixed(3), fixed(3))], rows[1:], constraint, inner))
+
+
 def overfull(c):
     c.group = 'overfull'
     c.add('one fixed track', sheet([(fixed(150), fixed(150))]), bases=[150], free=-50, rounds=0)
@@ -599,13 +747,15 @@ def many(c):
 
 
 def random_tracks(r, count, with_fr):
+    """Tracks of any kind; fr stands so often beside the six other maxima that one is drawn from."""
+
     def number():
         return r.choice((0, 1, 3, 5, 8, 13, 20, 34, 55))
 
     def one():
         minimum = r.choice((fixed(number()), auto, auto, min_content, max_content))
         maxima = [fixed(number()), auto, auto, min_content, max_content, fit(number())]
-        return minimum, r.choice(maxima + [fr(r.choice((0, 300, 500, 1_000, 1_000, 1_500, 2_000, 7_000)))] * (2 * with_fr))
+        return minimum, r.choice(maxima + [fr(r.choice((0, 0, 250, 300, 500, 1_000, 1_000, 1_500, 2_000, 7_000)))] * with_fr)
 
     return [one() for _ in range(count)]
 
@@ -615,8 +765,7 @@ def random_items(r, tracks, count):
     for _ in range(count):
         start = r.randrange(len(tracks))
         span = r.choice((1, 1, 1, 2, 2, 3, 4, 5))
-        while span > 1 and (start + span > len(tracks) or any(tracks[t][1][0] == FR for t in range(start, start + span))):
-            span -= 1
+        span = min(span, len(tracks) - start)
         row = sorted(r.choice((0, 1, 4, 7, 10, 16, 25, 33, 48, 70, 99)) for _ in range(3))
         found.append(item(start, span, *row))
     return found
@@ -626,14 +775,29 @@ def random_boards(c):
     c.group = 'random'
     r = random.Random(20_001)
     for k in range(360):
-        tracks = random_tracks(r, r.choice((1, 2, 2, 3, 3, 3, 4, 4, 5, 6)), k % 3 == 0)
+        tracks = random_tracks(r, r.choice((1, 2, 2, 3, 3, 3, 4, 4, 5, 6)), (2, 0, 0)[k % 3])
         items = random_items(r, tracks, r.choice((0, 1, 2, 3, 4, 5, 6)))
         constraint = r.choice((definite(r.randrange(0, 200)), definite(100), under_min, under_max))
         inner = r.choice((None, 100, r.randrange(0, 250)))
         c.add(f'{k}', sheet(tracks, items, constraint, inner, r.randrange(2)), places=len(tracks) + r.choice((0, 0, 1, 3)))
     for k in range(8):
-        tracks = random_tracks(r, 20 + 4 * k, k % 2 == 0)
+        tracks = random_tracks(r, 20 + 4 * k, (2, 0)[k % 2])
         c.add(f'large {k}', sheet(tracks, random_items(r, tracks, 12 + 3 * k), (definite(700), under_max, under_min)[k % 3], (800, None)[k % 2], k % 2))
+
+
+def random_fr(c):
+    """Most tracks are fr, and most items cross some of them."""
+    c.group = 'random fr'
+    r = random.Random(20_004)
+    for k in range(160):
+        tracks = random_tracks(r, r.choice((2, 3, 3, 4, 4, 5, 6, 7)), (6, 12, 40)[k % 3])
+        items = random_items(r, tracks, r.choice((1, 2, 2, 3, 4, 5, 6)))
+        constraint = (definite(r.randrange(0, 200)), under_min, under_max)[k // 3 % 3]
+        inner = r.choice((None, 0, r.randrange(0, 300)))
+        c.add(f'{k}', sheet(tracks, items, constraint, inner, r.randrange(2)), places=len(tracks) + r.choice((0, 0, 1)))
+    for k in range(6):
+        tracks = random_tracks(r, 20 + 5 * k, 6)
+        c.add(f'large {k}', sheet(tracks, random_items(r, tracks, 12 + 4 * k), (definite(900), under_max, under_min)[k % 3], (None, 1_000)[k % 2], k % 2))
 
 
 def random_limits(c):
@@ -678,8 +842,25 @@ def examples():
         item(0, 3, 70, 110, 190),
         item(6, 1, 40, 40, 46),
     ]
+    days = [(auto, max_content), gutter, (auto, fr(1_000)), gutter, (auto, fr(1_500))]
+    passes = [
+        item(0, 1, 36, 52, 88),
+        item(2, 1, 28, 28, 36),
+        item(4, 1, 34, 34, 42),
+        item(0, 1, 40, 46, 70),
+        item(2, 1, 30, 30, 38),
+        item(4, 1, 34, 34, 44),
+        item(0, 1, 32, 38, 58),
+        item(2, 3, 190, 204, 236),
+    ]
     lacking = sheet([(auto, auto)], [item(0, 1, 30, None, 60)])
-    return {'w12': W12, 'tariff': sheet(columns, fares, definite(320), 320), 'tariff_narrow': sheet(columns, fares, definite(150), 150), 'lacking': lacking}
+    return {
+        'w12': W12,
+        'tariff': sheet(columns, fares, definite(320), 320),
+        'tariff_narrow': sheet(columns, fares, definite(150), 150),
+        'day_pass': sheet(days, passes, definite(260), 260),
+        'lacking': lacking,
+    }
 
 
 def longest():
@@ -709,7 +890,7 @@ def write_examples(root):
     # The reader's own run: every example, W12 on its standard input too, the longest sheet, and that with a byte more.
     run = dict(examples(), longest=longest(), longest_and_one=longest() + bytes(1))
     assert len(run['longest']) == LONGEST
-    words = ['tariff.sheet', 'tariff_narrow.sheet', 'lacking.sheet', '-', 'longest.sheet', 'longest_and_one.sheet', '--', 'w12.sheet']
+    words = ['tariff.sheet', 'tariff_narrow.sheet', 'day_pass.sheet', 'lacking.sheet', '-', 'longest.sheet', 'longest_and_one.sheet', '--', 'w12.sheet']
     for name, data in run.items():
         write(f'crates/reader/data/{name}.sheet', data)
     write('crates/reader/stdin', W12)
@@ -729,7 +910,6 @@ def main():
         refused_by_limits,
         refused_by_spans,
         refused_by_contributions,
-        refused_by_fr,
         which_refusal,
         kinds,
         kinds_alone,
@@ -737,9 +917,13 @@ def main():
         bases_at_limits,
         fit_content,
         factors,
+        across_fr,
+        flexible_across,
+        across_kinds,
         overfull,
         many,
         random_boards,
+        random_fr,
         random_limits,
         random_edits,
     ):

@@ -2,9 +2,10 @@
 
 A sheet is read front to back, and its refusal held to a second derivation, which gathers every fault and takes the one that
 comes first. A board is worked out step by step as the paper tells it; every fill in it is held to the level that the dots
-reach, every fr search to a second way of finding fr, and the finished board to what must hold of it.
+reach, every share by factor to the exact parts, every fr search to a second way of finding fr, and the finished board to what
+must hold of it.
 
-Where the paper leaves a choice, it is read so:
+11 is retired: an item may cross fr tracks with any span. Where the paper leaves a choice, it is read so:
 
 - The growth limit answered is the one after step 4: steps 5 to 7 change sizes and leave it.
 - 7 looks at every number that is given, also at those of items that are not measured. Items not measured take no further part.
@@ -12,12 +13,19 @@ Where the paper leaves a choice, it is read so:
 - 'Limited' reads the spanned maxima as the sheet writes them, not as raised to a larger minimum.
 - A letter of a batch works on the sizes before it; its increases, each the largest that one item gave, are added at its end.
 - After (d) every track's limit below its base becomes its base.
+- The last batch takes the measured items that cross an fr track, be it one track of many or the only one. No other batch takes them.
+- In it a letter affects those tracks of its kinds that are fr too. Extra is what the contribution leaves beyond all the spanned
+  sizes, also those of tracks that are not fr.
+- Extra goes by factor there: the sum is that of the affected tracks' factors, however few of the spanned ones they are. No growth
+  limit has a say and nothing is shared twice. Where those factors are all 0, the fill has no limits either.
+- 'Limited' never cuts a contribution in it, since an fr maximum is neither fixed nor fit-content.
 - 'Both these shares' are the two shares of growth limits. In the second a fit-content track's present size is its size and what
   the first share gave it, so that the room of both together is what the larger of argument and size leaves.
 - A track is infinitely growable in (f) of the batch in whose (e) its limit came, and not in later batches.
 - Step 5 reads the constraint, steps 6 and 7 the expansion space: a given inner size makes that definite under any constraint.
 - Rounds are those of step 5's fill: 0 where there is nothing to fill, under min-content and under max-content.
-- 'Each item on an fr track' means the items of span 1 there, which are always measured.
+- 'Each item on an fr track' means each that crosses one, of any span; it is always measured. Its search holds the other tracks that
+  it spans at their bases of that moment, and looks at no track outside.
 - Fractions are exact until the size of an fr track is rounded down.
 - Free is the inner size minus the sizes after step 7, and none without an inner size.
 """
@@ -162,7 +170,7 @@ def items_that(sheet, is_so):
 
 
 def refuse(sheet, places):
-    """6 to 11: by number, then the lowest record."""
+    """6 to 10: by number, then the lowest record."""
 
     def first(number, records):
         for record in records:
@@ -181,11 +189,10 @@ def refuse(sheet, places):
     first(8, items_that(sheet, lambda item: item.span == 0 or item.start + item.span > len(sheet.tracks)))
     first(9, items_that(sheet, lacks))
     first(10, items_that(sheet, falls))
-    first(11, items_that(sheet, lambda item: item.span > 1 and any(sheet.tracks[t].maximum[0] == FR for t in spanned(item))))
 
 
 def record_faults(sheet, places):
-    """6 to 11 again, all of them, from each record by itself."""
+    """6 to 10 again, all of them, from each record by itself."""
     n = len(sheet.tracks)
     faults = [(6, 0)] if places < n else []
     if max(sheet.constraint[1], sheet.inner[1]) >= 2 ** 24:
@@ -205,8 +212,6 @@ def record_faults(sheet, places):
                 faults.append((9, i))
             elif sorted(row, key=lambda given: given[1]) != list(row):
                 faults.append((10, i))
-        if span > 1 and FR in (high for _, high in kinds):
-            faults.append((11, i))
     return faults
 
 
@@ -252,6 +257,39 @@ def fill_to_a_level(dots, rooms):
     return gains, left
 
 
+# ---- the share by factor
+
+
+def share_by_factor(dots, factors):
+    """The gains of affected fr tracks with these factors, and how many odd dots there were: each gets its part of the dots, rounded
+    down, and the dots over go one each to the first with a factor above 0. Where no factor is, the plain fill without limits."""
+    total = sum(factors)
+    if total == 0:
+        gains, left, _ = fill(dots, [None] * len(factors))
+        assert left == 0 or not factors, (dots, factors)
+        return gains, 0
+    gains = [dots * factor // total for factor in factors]
+    over = left = dots - sum(gains)
+    for k, factor in enumerate(factors):
+        if left and factor:
+            gains[k] += 1
+            left -= 1
+    takers = [k for k, factor in enumerate(factors) if factor]
+    assert sum(gains) == dots and over < len(takers), (dots, factors)
+    assert all(gains[k] == 0 for k, factor in enumerate(factors) if factor == 0), (dots, factors)
+    assert gains == share_by_parts(dots, factors, takers), (dots, factors)
+    return gains, over
+
+
+def share_by_parts(dots, factors, takers):
+    """The same gains from the exact parts: what rounding cuts off them adds up to the dots over."""
+    parts = [Fraction(dots) * Fraction(factor, sum(factors)) for factor in factors]
+    cut = sum(part % 1 for part in parts)
+    assert cut.denominator == 1
+    odd = takers[:int(cut)]
+    return [int(part) + (k in odd) for k, part in enumerate(parts)]
+
+
 # ---- the fr search
 
 
@@ -293,16 +331,24 @@ class Sizing:
         self.maximum = [track.maximum[0] for track in sheet.tracks]
         self.argument = [track.maximum[1] for track in sheet.tracks]
         self.all = range(len(sheet.tracks))
-        self.items = [item for item in sheet.items if is_measured(sheet, item)]
+        # the measured items, those that cross an fr track apart
+        items = [item for item in sheet.items if is_measured(sheet, item)]
+        self.across_fr = [item for item in items if self.of_fr(item)]
+        self.items = [item for item in items if not self.of_fr(item)]
         self.inner = sheet.inner[1] if sheet.inner[0] else None
         self.rounds = 0
         self.marks = set()
+
+    def of_fr(self, item):
+        """The fr tracks that an item crosses."""
+        return [t for t in spanned(item) if self.maximum[t] == FR]
 
     def run(self):
         self.start()
         self.one_track()
         for batch in self.batches():
             self.batch(batch)
+        self.last_batch()
         self.missing_limits()
         self.maximise()
         self.flexible()
@@ -343,7 +389,7 @@ class Sizing:
     def one_track(self):
         for t in self.all:
             here = [item for item in self.items if item.span == 1 and item.start == t]
-            if self.maximum[t] == FR or not here:
+            if not here:
                 continue
             for_base = {AUTO: self.for_auto, MIN: self.min_content, MAX: self.max_content}.get(self.minimum[t])
             if for_base:
@@ -359,7 +405,6 @@ class Sizing:
     def batches(self):
         for span in sorted({item.span for item in self.items if item.span > 1}):
             yield [item for item in self.items if item.span == span]
-        yield [item for item in self.items if item.span == 1 and self.maximum[item.start] == FR]
 
     def batch(self, items):
         self.bases(items, INTRINSIC_MINIMA, self.for_auto, (AUTO, MIN, MAX))
@@ -370,6 +415,37 @@ class Sizing:
         self.limits_up_to_bases()
         came = self.limits(items, INTRINSIC_MAXIMA, self.min_content, set())
         self.limits(items, (AUTO, MAX, FIT), self.max_content, came)
+
+    def last_batch(self):
+        """The items that cross an fr track, whatever their span. Its (e) and (f) change nothing."""
+        if len({item.span for item in self.across_fr}) > 1:
+            self.marks.add('several spans in the last batch')
+        self.fr_bases(INTRINSIC_MINIMA, self.for_auto)
+        self.fr_bases((MIN, MAX), self.min_content)
+        if self.constraint == UNDER_MAX:
+            self.fr_bases((AUTO, MAX), self.limited_max_content)
+        self.fr_bases((MAX,), self.max_content)
+        self.limits_up_to_bases()
+
+    def fr_bases(self, minima, contribution):
+        """A letter of the last batch: it raises fr tracks alone."""
+        gain = [0 for _ in self.all]
+        for item in self.across_fr:
+            affected = [t for t in self.of_fr(item) if self.minimum[t] in minima]
+            extra = max(0, contribution(item) - sum(self.base[t] for t in spanned(item)))
+            factors = [self.argument[t] for t in affected]
+            given, over = share_by_factor(extra, factors)
+            for t, more in zip(affected, given):
+                gain[t] = max(gain[t], more)
+            if extra and len(affected) > 1:
+                self.marks.add('shared by factor' if any(factors) else 'factors all 0')
+                if any(factors) and 0 in factors:
+                    self.marks.add('a factor of 0 beside another')
+                if over:
+                    self.marks.add('odd dots by factor')
+            if extra and affected and len(affected) < item.span:
+                self.marks.add('fr beside tracks that are not affected')
+        self.base = [base + more for base, more in zip(self.base, gain)]
 
     def bases(self, items, minima, contribution, beyond):
         """A letter on bases. What no room takes goes to tracks with a maximum among `beyond`."""
@@ -454,13 +530,14 @@ class Sizing:
             return
         else:
             fr = max([Fraction(0)] + [self.base[t] / max(Fraction(1), factor[t]) for t in factor])
-            for item in self.items:
-                t = item.start
-                if item.span == 1 and t in factor:
-                    by_item = fr_search(self.max_content(item), [(factor[t], self.base[t])], [])
-                    if by_item > fr:
-                        self.marks.add('fr of an item')
-                    fr = max(fr, by_item)
+            decides = None
+            for item in self.across_fr:
+                others = [self.base[t] for t in spanned(item) if t not in factor]
+                by_item = fr_search(self.max_content(item), [(factor[t], self.base[t]) for t in self.of_fr(item)], others)
+                if by_item > fr:
+                    fr, decides = by_item, item
+            if decides:
+                self.marks.add('fr of an item' if decides.span == 1 else 'fr of an item across several tracks')
         for t in factor:
             self.base[t] = max(self.base[t], factor[t] * fr // 1)
 
@@ -474,15 +551,21 @@ class Sizing:
     # what must hold
 
     def check_bases(self):
-        """After step 3 the tracks under an item hold what their minima ask of it."""
-        for item in self.items:
-            kinds = {self.minimum[t] for t in spanned(item)}
+        """After step 3 the tracks under an item hold what their minima ask of it; of one across fr the minima of the fr tracks alone
+        ask, and a track's base is no more than the sheet or an item on it says."""
+        for item in self.items + self.across_fr:
+            kinds = {self.minimum[t] for t in self.of_fr(item) or spanned(item)}
             held = sum(self.base[t] for t in spanned(item))
             assert held >= self.for_auto(item) or kinds == {FIXED}
             assert held >= self.min_content(item) or not kinds & {MIN, MAX}
             assert held >= self.max_content(item) or MAX not in kinds
+            # (c) is a letter of the batches: an item in one track that is not fr never comes to it
+            if self.constraint == UNDER_MAX and (item.span > 1 or item in self.across_fr):
+                assert held >= self.limited_max_content(item) or not kinds & {AUTO, MAX}
         for t, (base, limit) in enumerate(zip(self.base, self.limit)):
-            assert limit is None or limit >= base or self.maximum[t] == FR
+            assert (limit is None) if self.maximum[t] == FR else (limit is None or limit >= base)
+            here = [self.max_content(item) for item in self.items + self.across_fr if t in spanned(item)]
+            assert base <= max([self.sheet.tracks[t].minimum[1]] + here)
             assert base <= SIZE_LIMIT
 
     def check_finished(self):

@@ -11,7 +11,12 @@ pub const AIMS: [Aims; 5] = [
     Aims {
         names: &[SHEET_REFUSALS, BOARD_REFUSALS, BOARDS, STEPS, ANSWERS],
         impossible: &[
+            ("refused 11", "it is retired"),
             ("refused 12 to 14", "no list and no float is lent"),
+            (
+                "3: the last batch raises a track that is not affected",
+                "such a track has no part in the share",
+            ),
             (
                 "3: (e) or (f) raises an fr track's limit",
                 "such a maximum is not intrinsic",
@@ -25,14 +30,14 @@ pub const AIMS: [Aims; 5] = [
     Aims {
         names: &[FILLS],
         impossible: &[(
-            "refused 1 to 6, 8 to 11, 13 and 14",
+            "refused 1 to 6, 8 to 10, 13 and 14",
             "there is no sheet, no item and no float",
         )],
     },
     Aims {
         names: &[SHEET_REFUSALS, READS],
         impossible: &[
-            ("refused 7 to 11", "reading lets stand what a record says"),
+            ("refused 7 to 10", "reading lets stand what a record says"),
             ("refused 12 to 14", "there is no fill and no float"),
         ],
     },
@@ -44,7 +49,7 @@ pub const AIMS: [Aims; 5] = [
                 "what is written is whole, and ends with the items",
             ),
             ("refused 3, space", "the writer's own count is 1"),
-            ("refused 7 to 11", "writing lets stand what a record says"),
+            ("refused 7 to 10", "writing lets stand what a record says"),
             ("refused 12 to 14", "there is no fill and no float"),
         ],
     },
@@ -82,7 +87,6 @@ const BOARD_REFUSALS: &[&str] = &[
     "refused 8",
     "refused 9",
     "refused 10",
-    "refused 11",
 ];
 
 /// What a board was made of.
@@ -120,6 +124,9 @@ const BOARDS: &[&str] = &[
     "a span over 2",
     "a span of 256",
     "3 spans or more",
+    "a span across one fr track and others",
+    "a span across two fr tracks or more",
+    "3 spans or more across fr tracks",
     "a size of 65,535",
     "a space of 16,777,215",
     "a factor of 0",
@@ -163,7 +170,18 @@ const STEPS: &[&str] = &[
     "3: (f) raises another limit",
     "3: (e) raises a fit-content limit to its argument",
     "3: (f) raises a fit-content limit to its argument",
-    "3: the last batch raises an fr track",
+    "3: (a) raises an fr track",
+    "3: (b) raises an fr track",
+    "3: (c) raises an fr track",
+    "3: (d) raises an fr track",
+    "3: a letter raises two fr tracks or more",
+    "3: shared by factor",
+    "3: shared by factor, fewer dots than tracks",
+    "3: odd dots by factor",
+    "3: all factors 0, shared evenly",
+    "3: a factor of 0 beside another",
+    "3: an fr track of fixed minimum gains nothing beside another",
+    "3: a track that is not fr gains nothing beside one",
     "4: a missing limit becomes base",
     "5: no round under definite",
     "5: 1 round",
@@ -175,7 +193,8 @@ const STEPS: &[&str] = &[
     "6: an fr track without growth, free 0 or less",
     "6: an fr track without growth, min-content",
     "6: an fr track grows, max-content",
-    "6: an fr track grows by its item",
+    "6: fr tracks grow by an item in one track",
+    "6: fr tracks grow by an item across several tracks",
     "6: the search restarts, definite",
     "6: the search restarts, max-content",
     "6: the search restarts twice or more",

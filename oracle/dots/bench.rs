@@ -40,7 +40,7 @@ const fn size(tracks: usize, items: usize, longest: usize) -> Size {
 
 type Make = fn() -> Input;
 
-const TABLE: [(&str, Make); 6] = [
+const TABLE: [(&str, Make); 7] = [
     ("3 tracks, 3 items", || size(3, 3, 2).boards()),
     ("12 tracks, 40 items", || size(12, 40, 3).boards()),
     ("256 tracks, 1,024 items, spans to 4", || BIG.boards()),
@@ -50,6 +50,9 @@ const TABLE: [(&str, Make); 6] = [
     ("a fill of 256 tracks, all rooms different", || fills(256)),
     ("a sheet refused at its last byte", || {
         BIG.refused_at_the_last_byte()
+    }),
+    ("12 tracks, 40 items, many across fr", || {
+        size(12, 40, 8).boards_across_fr()
     }),
 ];
 

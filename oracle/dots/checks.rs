@@ -1,4 +1,4 @@
-//! Refusals 6 to 11, by number and then by record: space is record 0, track t is 1 + t, item i is 1 + tracks + i.
+//! Refusals 6 to 10, by number and then by record: space is record 0, track t is 1 + t, item i is 1 + tracks + i.
 use crate::kinds::{Constraint, Item, Maximum, Minimum, Refusal, Sheet, Space, Track};
 
 /// Whether a board can be made of the sheet in so many lent sizes.
@@ -9,8 +9,7 @@ pub fn check(sheet: &Sheet, sizes: usize) -> Result<(), Refusal> {
     refuse(7, record_over_limit(sheet))?;
     refuse(8, item_where(sheet, is_outside))?;
     refuse(9, item_where(sheet, lacks_a_contribution))?;
-    refuse(10, item_where(sheet, falls))?;
-    refuse(11, item_where(sheet, crosses_fr))
+    refuse(10, item_where(sheet, falls))
 }
 
 fn refuse(number: u32, record: Option<usize>) -> Result<(), Refusal> {
@@ -74,8 +73,4 @@ fn lacks_a_contribution(item: &Item, tracks: &[Track]) -> bool {
 
 fn falls(item: &Item, tracks: &[Track]) -> bool {
     item.row().is_some_and(|row| !row.is_sorted()) && item.is_measured(tracks)
-}
-
-fn crosses_fr(item: &Item, tracks: &[Track]) -> bool {
-    item.span >= 2 && tracks[item.tracks()].iter().any(|track| track.is_fr())
 }

@@ -23,8 +23,12 @@ impl Fr {
         Fr { dots, thousandths }
     }
 
+    pub fn is_above(self, other: Fr) -> bool {
+        self.dots * other.thousandths > other.dots * self.thousandths
+    }
+
     pub fn larger(self, other: Fr) -> Fr {
-        if other.dots * self.thousandths > self.dots * other.thousandths {
+        if other.is_above(self) {
             other
         } else {
             self

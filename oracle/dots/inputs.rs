@@ -141,7 +141,7 @@ enum Aim {
     Any,
     /// Few tracks and no fr, and items that span more than one: the lettered steps.
     Spans,
-    /// Few tracks, most of them fr: the fr search.
+    /// Few tracks, most of them fr: the last batch, and the fr search.
     Flexible,
 }
 
@@ -234,18 +234,19 @@ fn sound_sheet(random: &mut Random) -> Sheet {
     let mood = random.pick(&MOODS);
     let aim = match random.between(0, 9) {
         0..=1 => Aim::Spans,
-        2 => Aim::Flexible,
+        2..=3 => Aim::Flexible,
         _ => Aim::Any,
     };
     let tracks = sound_tracks(random, mood, aim);
     let mut items = Vec::new();
     if !tracks.is_empty() {
-        let long = match aim {
-            Aim::Spans => 100,
-            _ => random.pick(&[0, 20, 50, 90]),
+        let (long, across) = match aim {
+            Aim::Any => (random.pick(&[0, 20, 50, 90]), 50),
+            Aim::Spans => (100, 0),
+            Aim::Flexible => (random.pick(&[20, 60, 90]), 90),
         };
         for _ in 0..item_count(random, aim, tracks.len()) {
-            items.push(sound_item(random, mood, &tracks, long));
+            items.push(sound_item(random, mood, &tracks, long, across));
         }
     }
     let constraint = match random.between(0, 4) {
@@ -277,8 +278,11 @@ fn sound_tracks(random: &mut Random, mood: Mood, aim: Aim) -> Vec<Track> {
     let maxima = match aim {
         Aim::Any => part(random, &[1, 2, 3, 4, 5, 6]),
         Aim::Spans => part(random, &[2, 3, 4, 5]),
-        Aim::Flexible => part(random, &[6, 6, 6, 1, 2]),
+        Aim::Flexible => part(random, &[6, 6, 6, 1, 2, 5]),
     };
+    // On some boards only two factors, of which one is 0: so several are alike, or all are 0.
+    let few = random.percent(20);
+    let factors = [0, random.pick(&[0, 250, 1000, 1500])];
     let has_gutters = random.percent(15);
     let gutter = size(random, mood);
     let mut tracks = Vec::new();
@@ -303,6 +307,7 @@ fn sound_tracks(random: &mut Random, mood: Mood, aim: Aim) -> Vec<Track> {
             3 => Maximum::MinContent,
             4 => Maximum::MaxContent,
             5 => Maximum::FitContent(size(random, mood)),
+            _ if few => Maximum::Fr(random.pick(&factors)),
             _ => Maximum::Fr(factor(random, mood)),
         };
         tracks.push(Track { minimum, maximum });
@@ -310,20 +315,20 @@ fn sound_tracks(random: &mut Random, mood: Mood, aim: Aim) -> Vec<Track> {
     tracks
 }
 
-/// An item on tracks that are there, with a longer span so often in a hundred.
-fn sound_item(random: &mut Random, mood: Mood, tracks: &[Track], long: u32) -> Item {
+/// An item on tracks that are there, with a longer span so often in a hundred. Of those so many in a hundred may cross the next fr
+/// track; the others end before it, so that the batches by span have items too.
+fn sound_item(random: &mut Random, mood: Mood, tracks: &[Track], long: u32, across: u32) -> Item {
     let mut start = random.index(tracks.len());
     let mut span = 1;
     if random.percent(long) {
         if random.percent(10) {
             start = 0;
         }
-        // As far as the next fr track, which a longer span must not cross.
         let rest = &tracks[start..];
-        let most = rest
-            .iter()
-            .position(|track| track.is_fr())
-            .unwrap_or(rest.len());
+        let most = match rest.iter().position(|track| track.is_fr()) {
+            Some(next_fr) if !random.percent(across) => next_fr,
+            _ => rest.len(),
+        };
         if most > 1 {
             span = match random.between(0, 3) {
                 0 => most,
@@ -366,7 +371,7 @@ fn contributions(random: &mut Random, mood: Mood, span: usize) -> [u32; 3] {
     row
 }
 
-/// One of the faults 7 to 11 in a sheet that had none, where it has a place for it.
+/// One of the faults 7 to 10 in a sheet that had none, where it has a place for it.
 fn spoil_sheet(random: &mut Random, sheet: &mut Sheet) {
     if sheet.items.is_empty() && random.percent(50) {
         let contributions = contributions(random, Mood::Small, 1).map(Some);
@@ -376,7 +381,7 @@ fn spoil_sheet(random: &mut Random, sheet: &mut Sheet) {
             contributions,
         });
     }
-    let fault = random.between(7, 11);
+    let fault = random.between(7, 10);
     if fault == 7 {
         return exceed(random, sheet);
     }
@@ -401,23 +406,12 @@ fn spoil_sheet(random: &mut Random, sheet: &mut Sheet) {
             item.span = span as u16;
         }
         9 => item.contributions[random.index(3)] = None,
-        10 => {
+        _ => {
             let high = random.between(1, Item::MOST_CONTRIBUTION);
             let low = random.pick(&[0, high - 1]);
             item.contributions = random
                 .pick(&[[high, low, high], [low, high, low], [high, low, low]])
                 .map(Some);
-        }
-        _ => {
-            let end = item.tracks().end.min(sheet.tracks.len());
-            if item.span < 2 && end < sheet.tracks.len() {
-                item.span += 1;
-            }
-            let start = usize::from(item.start);
-            if start < end {
-                let t = start + random.index(end - start);
-                sheet.tracks[t].maximum = Maximum::Fr(factor(random, Mood::Middle));
-            }
         }
     }
 }
@@ -551,7 +545,10 @@ fn damage(random: &mut Random, sheet: &Sheet, bytes: &mut Vec<u8>) {
             } else {
                 *bytes = sheet::bytes_of(&more);
                 bytes[track_count..][..2].copy_from_slice(&257u16.to_le_bytes());
-                bytes.splice(sheet::TRACKS_AT..sheet::TRACKS_AT, [1, 0, 0, 0, 0, 1, 0, 0, 0, 0]);
+                bytes.splice(
+                    sheet::TRACKS_AT..sheet::TRACKS_AT,
+                    [1, 0, 0, 0, 0, 1, 0, 0, 0, 0],
+                );
             }
         }
         _ => {

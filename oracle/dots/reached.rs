@@ -101,6 +101,17 @@ fn by_answer(counters: &mut Counters, sheet: &Sheet, board: &Board, sizes: &[Siz
     spans.sort();
     spans.dedup();
     counters.reach_if(spans.len() >= 3, "3 spans or more");
+    spans.clear();
+    spans.extend(
+        sheet
+            .items
+            .iter()
+            .filter(|item| fr_count(sheet, item) > 0)
+            .map(|item| item.span),
+    );
+    spans.sort();
+    spans.dedup();
+    counters.reach_if(spans.len() >= 3, "3 spans or more across fr tracks");
 
     let is_definite = matches!(sheet.space.constraint, Constraint::Definite(_));
     match board.rounds {
@@ -155,10 +166,22 @@ fn count_track(counters: &mut Counters, track: &Track) {
     counters.reach_if(is_most, "a factor of 100,000");
 }
 
+/// The fr tracks that an item spans.
+fn fr_count(sheet: &Sheet, item: &Item) -> usize {
+    let spanned = &sheet.tracks[item.tracks()];
+    spanned.iter().filter(|track| track.is_fr()).count()
+}
+
 fn count_item(counters: &mut Counters, sheet: &Sheet, item: &Item) {
     counters.reach_if(item.span == 2, "a span of 2");
     counters.reach_if(item.span > 2, "a span over 2");
     counters.reach_if(item.span == 256, "a span of 256");
+    let of_fr = fr_count(sheet, item);
+    counters.reach_if(
+        of_fr == 1 && item.span > 1,
+        "a span across one fr track and others",
+    );
+    counters.reach_if(of_fr > 1, "a span across two fr tracks or more");
     let is_most = item.contributions.contains(&Some(Item::MOST_CONTRIBUTION));
     counters.reach_if(is_most, "a contribution of 65,535");
     let Some([minimum, min_content, _]) = item.row() else {

@@ -36,16 +36,32 @@ pub struct Size {
     pub longest: usize,
 }
 
+/// Where the fr tracks stand.
+#[derive(Clone, Copy, PartialEq)]
+enum Fr {
+    /// In the last fifth, so that spans to 200 need not cross one, and no longer item does.
+    Apart,
+    /// Every third track, in the way of longer items, with a minimum that asks for a share of them.
+    Among,
+}
+
 impl Size {
     pub fn boards(self) -> Input {
-        Input::Boards((0..CALLS).map(|b| bytes_of(&self.sheet(b))).collect())
+        let sheets = (0..CALLS).map(|b| self.sheet(b, Fr::Apart));
+        Input::Boards(sheets.map(|sheet| bytes_of(&sheet)).collect())
+    }
+
+    /// The same with items across fr tracks.
+    pub fn boards_across_fr(self) -> Input {
+        let sheets = (0..CALLS).map(|b| self.sheet(b, Fr::Among));
+        Input::Boards(sheets.map(|sheet| bytes_of(&sheet)).collect())
     }
 
     /// The last contribution of the last item is absent, with a stray number beside it that only the last byte shows: 5, found when
     /// all else is read.
     pub fn refused_at_the_last_byte(self) -> Input {
         let refused = |b| {
-            let mut sheet = self.sheet(b);
+            let mut sheet = self.sheet(b, Fr::Apart);
             let last = sheet.items.last_mut().expect("an item");
             last.contributions[2] = None;
             let mut bytes = bytes_of(&sheet);
@@ -55,10 +71,10 @@ impl Size {
         Input::Boards((0..CALLS).map(refused).collect())
     }
 
-    fn sheet(self, b: u32) -> Sheet {
+    fn sheet(self, b: u32, fr: Fr) -> Sheet {
         let random = &mut Random::new(1, u64::from(b));
-        let tracks = self.sheet_tracks(random, 4 - b / 3);
-        let items = (0..self.items).map(|i| item(random, &tracks, 1 + i % self.longest));
+        let tracks = self.sheet_tracks(random, 4 - b / 3, fr);
+        let items = (0..self.items).map(|i| item(random, &tracks, 1 + i % self.longest, fr));
         let items = items.collect();
         // Room for what the items ask of a track, and more: dots are free for the steps behind them.
         let space = (self.tracks * (70 + 5 * self.longest / 4)) as u32;
@@ -77,12 +93,13 @@ impl Size {
         }
     }
 
-    /// Every kind of maximum, and of minimum up to one: where none is min- or max-content, more is left for the limits. Fr stands
-    /// only in the last fifth, so that spans to 200 need not cross it.
-    fn sheet_tracks(self, random: &mut Random, last_minimum: u32) -> Vec<Track> {
+    /// Every kind of maximum, and of minimum up to one: where none is min- or max-content, more is left for the limits.
+    fn sheet_tracks(self, random: &mut Random, last_minimum: u32, fr: Fr) -> Vec<Track> {
         let mut tracks = Vec::with_capacity(self.tracks);
         for t in 0..self.tracks {
-            let mut minimum = match random.between(1, last_minimum) {
+            let is_among = fr == Fr::Among && t % 3 == 1;
+            let first_minimum = if is_among { 2 } else { 1 };
+            let mut minimum = match random.between(first_minimum, last_minimum) {
                 1 => Minimum::Fixed(random.between(5, 40)),
                 2 => Minimum::Auto,
                 3 => Minimum::MinContent,
@@ -95,7 +112,11 @@ impl Size {
                 4 => Maximum::MaxContent,
                 _ => Maximum::FitContent(random.between(20, 100)),
             };
-            if t >= self.tracks - self.tracks.div_ceil(5) && random.percent(50) {
+            let is_fr = match fr {
+                Fr::Apart => t >= self.tracks - self.tracks.div_ceil(5) && random.percent(50),
+                Fr::Among => is_among,
+            };
+            if is_fr {
                 maximum = Maximum::Fr(random.pick(&[500, 1000, 1500, 2000]));
             } else if random.percent(10) {
                 // A gutter.
@@ -110,13 +131,13 @@ impl Size {
 
 /// An item of that span anywhere that it may stand. The more it spans, the more it asks of each track, and the nearer to the mean:
 /// else the shorter spans would have left it nothing to share.
-fn item(random: &mut Random, tracks: &[Track], span: usize) -> Item {
+fn item(random: &mut Random, tracks: &[Track], span: usize, fr: Fr) -> Item {
     let mut start = 0;
     let mut is_allowed = false;
     while !is_allowed {
         start = random.index(tracks.len() - span + 1);
         let spanned = &tracks[start..start + span];
-        is_allowed = span == 1 || !spanned.iter().any(|track| track.is_fr());
+        is_allowed = span == 1 || fr == Fr::Among || !spanned.iter().any(|track| track.is_fr());
     }
     let span = span as u32;
     let of_each = 20 + 5 * span / 4 + random.between(0, (60 / span).max(8));

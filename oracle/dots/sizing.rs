@@ -27,6 +27,8 @@ pub struct Found {
 /// A measured item, with its contributions as the steps ask for them.
 pub struct Measured {
     pub tracks: Range<usize>,
+    /// Whether any of its tracks is fr.
+    pub crosses_fr: bool,
     /// The minimum contribution, or under a min- or max-content constraint the limited min-content one.
     pub for_auto: u32,
     pub min_content: u32,
@@ -89,6 +91,7 @@ impl Measured {
         if !item.is_measured(tracks) {
             return None;
         }
+        let crosses_fr = tracks[item.tracks()].iter().any(|track| track.is_fr());
         // Only a constraint that is not definite asks for limited contributions.
         let (for_auto, limited_max_content) = match constraint {
             Constraint::Definite(_) => (minimum, max_content),
@@ -100,6 +103,7 @@ impl Measured {
         };
         Some(Measured {
             tracks: item.tracks(),
+            crosses_fr,
             for_auto,
             min_content,
             max_content,
@@ -178,11 +182,9 @@ impl Line {
 
 /// Step 2.
 fn items_in_one_track(lines: &mut [Line], items: &[Measured]) {
-    for item in items.iter().filter(|item| item.tracks.len() == 1) {
+    let in_one_track = |item: &&Measured| item.tracks.len() == 1 && !item.crosses_fr;
+    for item in items.iter().filter(in_one_track) {
         let line = &mut lines[item.tracks.start];
-        if line.track.is_fr() {
-            continue;
-        }
         let base = match line.track.minimum {
             Minimum::Fixed(_) => 0,
             Minimum::Auto => item.for_auto,
@@ -232,7 +234,9 @@ fn flexible(expansion: Constraint, lines: &mut [Line], items: &[Measured], watch
     let fr = match expansion {
         Constraint::MinContent => return,
         Constraint::Definite(space) if free_space(space, lines) <= 0 => return,
-        Constraint::Definite(space) => fr_of_space(space, lines, watch),
+        Constraint::Definite(space) => {
+            fr_of_tracks(space, lines, &mut Vec::with_capacity(lines.len()), watch)
+        }
         Constraint::MaxContent => fr_of_contents(lines, items, watch),
     };
     for line in lines {
@@ -242,10 +246,15 @@ fn flexible(expansion: Constraint, lines: &mut [Line], items: &[Measured], watch
     }
 }
 
-/// The search over all tracks.
-fn fr_of_space(space: u32, lines: &[Line], watch: &mut impl Watch) -> Fr {
+/// The search over these tracks, with a list lent to it: the inflexible ones are held at their bases.
+fn fr_of_tracks(
+    space: u32,
+    lines: &[Line],
+    flexible: &mut Vec<Flexible>,
+    watch: &mut impl Watch,
+) -> Fr {
     let mut held = 0;
-    let mut flexible = Vec::with_capacity(lines.len());
+    flexible.clear();
     for line in lines {
         match line.track.maximum {
             Maximum::Fr(factor) => flexible.push(Flexible {
@@ -255,10 +264,10 @@ fn fr_of_space(space: u32, lines: &[Line], watch: &mut impl Watch) -> Fr {
             _ => held += u64::from(line.base),
         }
     }
-    fr::search(space, held, &mut flexible, watch)
+    fr::search(space, held, flexible, watch)
 }
 
-/// The largest fr that a track's base or an item on it asks for.
+/// The largest fr that a track's base or an item across fr tracks asks for.
 fn fr_of_contents(lines: &[Line], items: &[Measured], watch: &mut impl Watch) -> Fr {
     let mut largest = Fr::ZERO;
     for line in lines {
@@ -266,16 +275,13 @@ fn fr_of_contents(lines: &[Line], items: &[Measured], watch: &mut impl Watch) ->
             largest = largest.larger(Fr::of(u64::from(line.base), u64::from(factor)));
         }
     }
-    let mut flexible = Vec::with_capacity(1);
-    for item in items {
-        let line = &lines[item.tracks.start];
-        if let Maximum::Fr(factor) = line.track.maximum {
-            flexible.clear();
-            flexible.push(Flexible {
-                factor,
-                base: line.base,
-            });
-            largest = largest.larger(fr::search(item.max_content, 0, &mut flexible, watch));
+    let mut flexible = Vec::new();
+    for item in items.iter().filter(|item| item.crosses_fr) {
+        let spanned = &lines[item.tracks.clone()];
+        let fr = fr_of_tracks(item.max_content, spanned, &mut flexible, watch);
+        if fr.is_above(largest) {
+            largest = fr;
+            watch.asked(spanned.len());
         }
     }
     largest

@@ -1,4 +1,4 @@
-//! Step 3 of the sizing: longer spans, batch by batch.
+//! Step 3 of the sizing: longer spans batch by batch, and last all items that cross an fr track.
 use crate::fill::{self, NO_LIMIT};
 use crate::kinds::{Constraint, Maximum, Minimum, Track};
 use crate::sizing::{Line, Measured};
@@ -20,7 +20,7 @@ impl Letter {
         matches!(self, Letter::E | Letter::F)
     }
 
-    fn affects(self, track: Track) -> bool {
+    pub fn affects(self, track: Track) -> bool {
         use Maximum::{Auto, FitContent, MaxContent};
         match self {
             Letter::A => track.minimum.is_intrinsic(),
@@ -29,6 +29,14 @@ impl Letter {
             Letter::D => matches!(track.minimum, Minimum::MaxContent),
             Letter::E => track.maximum.is_intrinsic(),
             Letter::F => matches!(track.maximum, Auto | MaxContent | FitContent(_)),
+        }
+    }
+
+    /// The factor of a track that it affects in the last batch, where only fr tracks are affected.
+    fn factor(self, track: Track) -> Option<u32> {
+        match track.maximum {
+            Maximum::Fr(factor) if self.affects(track) => Some(factor),
+            _ => None,
         }
     }
 
@@ -81,14 +89,14 @@ pub fn longer_spans(
     items: &[Measured],
     watch: &mut impl Watch,
 ) {
-    // An item in one track is here for the fr it stands on: the last batch.
-    let batch_of = |item: &Measured| match item.tracks.len() {
-        1 => usize::MAX,
-        span => span,
+    // What crosses an fr track is of the last batch, whatever its span.
+    let batch_of = |item: &Measured| match item.crosses_fr {
+        true => usize::MAX,
+        false => item.tracks.len(),
     };
     let mut spanning: Vec<&Measured> = items
         .iter()
-        .filter(|item| item.tracks.len() > 1 || lines[item.tracks.start].track.is_fr())
+        .filter(|item| item.tracks.len() > 1 || item.crosses_fr)
         .collect();
     if spanning.is_empty() {
         return;
@@ -109,7 +117,7 @@ pub fn longer_spans(
     let mut shares = Shares::new();
     for batch in spanning.chunk_by(|a, b| batch_of(a) == batch_of(b)) {
         for letter in &for_bases {
-            shares.plan(*letter, lines, batch);
+            shares.plan(*letter, lines, batch, watch);
             for (line, increase) in lines.iter_mut().zip(&mut shares.increases) {
                 line.base += std::mem::take(increase);
             }
@@ -119,8 +127,11 @@ pub fn longer_spans(
             line.lift_limit();
         }
         watch.after(Step::Lifted, lines);
+        if batch[0].crosses_fr {
+            break; // the last batch, whose (e) and (f) change nothing
+        }
         for letter in &for_limits {
-            shares.plan(*letter, lines, batch);
+            shares.plan(*letter, lines, batch, watch);
             for (line, increase) in lines.iter_mut().zip(&mut shares.increases) {
                 line.raise_limit(std::mem::take(increase));
             }
@@ -152,10 +163,22 @@ impl Shares {
     }
 
     /// The increases of a lettered step.
-    fn plan(&mut self, letter: Letter, lines: &[Line], batch: &[&Measured]) {
+    fn plan(
+        &mut self,
+        letter: Letter,
+        lines: &[Line],
+        batch: &[&Measured],
+        watch: &mut impl Watch,
+    ) {
         for item in batch {
             let spanned = &lines[item.tracks.clone()];
-            if !spanned.iter().any(|line| letter.affects(line.track)) {
+            let mut tracks = spanned.iter().map(|line| line.track);
+            let some_are_affected = if item.crosses_fr {
+                tracks.any(|track| letter.factor(track).is_some())
+            } else {
+                tracks.any(|track| letter.affects(track))
+            };
+            if !some_are_affected {
                 continue;
             }
             let sizes = spanned.iter().map(|line| letter.size(line)).sum();
@@ -163,7 +186,11 @@ impl Shares {
             if extra == 0 {
                 continue;
             }
-            self.share(letter, spanned, extra);
+            if item.crosses_fr {
+                self.share_by_factor(letter, spanned, extra, watch);
+            } else {
+                self.share(letter, spanned, extra);
+            }
             let increases = &mut self.increases[item.tracks.clone()];
             for (increase, gain) in increases.iter_mut().zip(&self.gains) {
                 *increase = (*increase).max(*gain);
@@ -207,5 +234,41 @@ impl Shares {
         for (gain, more) in gains.iter_mut().zip(more) {
             *gain += *more;
         }
+    }
+
+    /// The extra of an item that crosses fr tracks, shared by those affected as their factors are, or evenly where all are 0.
+    fn share_by_factor(
+        &mut self,
+        letter: Letter,
+        spanned: &[Line],
+        extra: u32,
+        watch: &mut impl Watch,
+    ) {
+        let gains = &mut self.gains[..spanned.len()];
+        let factor = |line: &Line| u64::from(letter.factor(line.track).unwrap_or(0));
+        let sum: u64 = spanned.iter().map(factor).sum();
+        if sum == 0 {
+            let rooms = &mut self.rooms[..spanned.len()];
+            for (room, line) in rooms.iter_mut().zip(spanned) {
+                let is_affected = letter.factor(line.track).is_some();
+                *room = if is_affected { NO_LIMIT } else { 0 };
+            }
+            fill::share(extra, rooms, gains);
+            watch.shared(letter, spanned, gains, 0);
+            return;
+        }
+
+        let mut over = extra;
+        for (gain, line) in gains.iter_mut().zip(spanned) {
+            *gain = (u64::from(extra) * factor(line) / sum) as u32;
+            over -= *gain;
+        }
+        gains
+            .iter_mut()
+            .zip(spanned)
+            .filter(|(_, line)| factor(line) > 0)
+            .take(over as usize)
+            .for_each(|(gain, _)| *gain += 1);
+        watch.shared(letter, spanned, gains, over);
     }
 }

@@ -26,8 +26,14 @@ pub trait Watch {
     /// The lines as a step left them.
     fn after(&mut self, _step: Step, _lines: &[Line]) {}
 
+    /// In a letter of the last batch an item's extra went to the tracks it spans, with so many odd dots by factor.
+    fn shared(&mut self, _letter: Letter, _spanned: &[Line], _gains: &[u32], _over: u32) {}
+
     /// The fr search has held more tracks and begins again.
     fn restarted(&mut self) {}
+
+    /// An item of that span asks for a larger fr than any before it.
+    fn asked(&mut self, _span: usize) {}
 }
 
 /// Nobody watches.

@@ -1,7 +1,7 @@
 //! Counts what the steps of a sizing change.
 use crate::counters::Counters;
 use crate::reached::{maximum_number, minimum_number};
-use dots::kinds::{Constraint, Maximum, Space};
+use dots::kinds::{Constraint, Maximum, Minimum, Space};
 use dots::sizing::{expansion, Line};
 use dots::spans::Letter;
 use dots::watch::{Step, Watch};
@@ -13,6 +13,8 @@ pub struct Watcher<'a> {
     /// The limits that the (e) of the batch at hand has made.
     made: Vec<bool>,
     restarts: u32,
+    /// The span of the item that asked for the largest fr.
+    asked: Option<usize>,
 }
 
 impl<'a> Watcher<'a> {
@@ -23,6 +25,7 @@ impl<'a> Watcher<'a> {
             before: Vec::new(),
             made: Vec::new(),
             restarts: 0,
+            asked: None,
         }
     }
 }
@@ -50,6 +53,13 @@ impl Watch for Watcher<'_> {
                 Step::Stretch => self.counters.reach("7: a track stretched"),
             }
         }
+        if let Step::Letter(_) = step {
+            let is_raised = |(line, before): &(&Line, &Line)| line.base > before.base;
+            let pairs = lines.iter().zip(&self.before).filter(is_raised);
+            let raised = pairs.filter(|(line, _)| line.track.is_fr()).count();
+            let name = "3: a letter raises two fr tracks or more";
+            self.counters.reach_if(raised > 1, name);
+        }
         match step {
             Step::Letter(Letter::F) => self.made.fill(false),
             Step::Flexible => self.flexible(lines),
@@ -59,8 +69,47 @@ impl Watch for Watcher<'_> {
         self.before.copy_from_slice(lines);
     }
 
+    fn shared(&mut self, letter: Letter, spanned: &[Line], gains: &[u32], over: u32) {
+        let counters = &mut self.counters;
+        let mut with_factor = 0;
+        let mut with_none = 0;
+        for (line, gain) in spanned.iter().zip(gains) {
+            let is_affected = letter.affects(line.track);
+            match line.track.maximum {
+                Maximum::Fr(0) if is_affected => with_none += 1,
+                Maximum::Fr(_) if is_affected => with_factor += 1,
+                _ if *gain > 0 => {
+                    counters.reach("3: the last batch raises a track that is not affected")
+                }
+                Maximum::Fr(_) => {
+                    let is_fixed = matches!(line.track.minimum, Minimum::Fixed(_));
+                    let name = "3: an fr track of fixed minimum gains nothing beside another";
+                    counters.reach_if(is_fixed, name);
+                }
+                _ => {
+                    let name = "3: a track that is not fr gains nothing beside one";
+                    counters.reach_if(is_affected, name);
+                }
+            }
+        }
+        let dots = gains.iter().sum::<u32>() as usize;
+        let is_few = with_factor > 1 && dots < with_factor;
+        counters.reach_if(with_factor > 1, "3: shared by factor");
+        counters.reach_if(is_few, "3: shared by factor, fewer dots than tracks");
+        counters.reach_if(over > 0, "3: odd dots by factor");
+        match (with_factor, with_none) {
+            (0, 2..) => counters.reach("3: all factors 0, shared evenly"),
+            (1.., 1..) => counters.reach("3: a factor of 0 beside another"),
+            _ => {}
+        }
+    }
+
     fn restarted(&mut self) {
         self.restarts += 1;
+    }
+
+    fn asked(&mut self, span: usize) {
+        self.asked = Some(span);
     }
 }
 
@@ -107,7 +156,9 @@ impl Watcher<'_> {
         };
         if line.base > before.base {
             counters.reach(&format!("3: {name} with an increase"));
-            counters.reach_if(line.track.is_fr(), "3: the last batch raises an fr track");
+            if line.track.is_fr() {
+                counters.reach(&format!("3: {name} raises an fr track"));
+            }
             let is_past = |most: Option<u32>| most.is_some_and(|most| line.base > most);
             if is_past(line.limit) || is_past(argument) {
                 let takers = match (letter, line.track.maximum) {
@@ -174,8 +225,15 @@ impl Watcher<'_> {
             }
             Constraint::MaxContent => {
                 counters.reach_if(has_grown, "6: an fr track grows, max-content");
-                // No base asks for more than itself where it is the only one.
-                counters.reach_if(has_grown && of_fr == 1, "6: an fr track grows by its item");
+                match self.asked {
+                    Some(1) if has_grown => {
+                        counters.reach("6: fr tracks grow by an item in one track")
+                    }
+                    Some(_) if has_grown => {
+                        counters.reach("6: fr tracks grow by an item across several tracks")
+                    }
+                    _ => {}
+                }
                 counters.reach_if(self.restarts > 0, "6: the search restarts, max-content");
             }
         }

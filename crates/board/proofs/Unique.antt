@@ -30,8 +30,7 @@ refusalOf number place =
     (cond (eqb number 6) (Layout LentTooShort)
     (cond (eqb number 7) (Layout (Record (checks.NumberOver place)))
     (cond (eqb number 8) (Layout (Record (checks.OutsideTracks place)))
-    (cond (eqb number 9) (Layout (Record (checks.ContributionMissing place)))
-    (cond (eqb number 10) (Layout (Record (checks.RowFalls place))) (Layout (Record (checks.CrossesFr place))))))))))))
+    (cond (eqb number 9) (Layout (Record (checks.ContributionMissing place))) (Layout (Record (checks.RowFalls place)))))))))))
 
 refusal-again : (r : Refusal) → refusalOf (numberOf r) (placeOf r) ≡ own r
 unfolding refusalOf
@@ -46,7 +45,6 @@ refusal-again (Layout (Record (checks.NumberOver place))) = refl
 refusal-again (Layout (Record (checks.OutsideTracks place))) = refl
 refusal-again (Layout (Record (checks.ContributionMissing place))) = refl
 refusal-again (Layout (Record (checks.RowFalls place))) = refl
-refusal-again (Layout (Record (checks.CrossesFr place))) = refl
 
 -- ---- an answer, from what it tells
 

@@ -8,7 +8,7 @@ use Rattle.sheet.specs.Rule.{Fault, fine, fault, Sheet, sheetFault, sheetAt}
 use Rattle.layout.specs.Rule.{layoutCall}
 pub use Rattle.layout.specs.Rule.{BoardTold, board, refused, BoardOutcome, boardOutcome}
 
--- what a sheet says, laid out: 6, then 7 to 11, then the sizes
+-- what a sheet says, laid out: 6, then 7 to 10, then the sizes
 abbrev pub sheetLayout : Sheet → List Row → BoardOutcome
 sheetLayout sheet sizes = layoutCall (spaceOf (sheet .space)) (map sheetTrackOf (sheet .tracks)) (map itemOf (sheet .items)) sizes
 

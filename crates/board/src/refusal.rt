@@ -5,7 +5,7 @@ ghost use Rattle.board.specs.Answer.{numberOf, placeOf};
 pub enum Refusal {
     // 1 to 5.
     Sheet(sheet::Refusal),
-    // 6 to 11.
+    // 6 to 10.
     Layout(layout::Refusal),
 }
 

@@ -106,7 +106,7 @@ nothing r true false = refl
 nothing r false true = refl
 nothing r false false = refl
 
--- by its start and span, its amounts and its tests: it is measured, and it is on an fr track
+-- by its start and span, its amounts and its tests: it is measured, and it crosses an fr track
 module _ (ts : List Track) (start span : ℕ) where
   at-span : (k : ℕ) → 0 < k → k ≤ length ts + 1 → (a b c : Amount) (m f : Bool) → some isFr (take span (drop start ts)) ≡ f
       → cond (eqb (numbered (length ts) m (lacks a b c) f span) k) (completeOf start span a b c) [] ≡ keep (inSpan ts k) (cond m (completeOf start span a b c) [])

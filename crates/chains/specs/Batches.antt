@@ -1,4 +1,4 @@
--- The batch of an item, by number: 0 for one that takes no part, its span, and a last one for items on an fr track; and what the
+-- The batch of an item, by number: 0 for one that takes no part, its span, and a last one for items that cross an fr track; and what the
 -- chains say when all items are gathered. Assumes nothing.
 use mathlib.Core.Path.{_≡_}
 use Prim.Native.Nat.{ℕ, _≤_, _<_}

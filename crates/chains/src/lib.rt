@@ -13,7 +13,7 @@ ghost use Rattle.chains.specs.Batches.{batchOf, Gathered, Gatherable};
 // So many batches more than tracks: none for items without part, one for each span, 1 also where there is no track, and the last.
 pub const MORE_BATCHES: usize = 3;
 
-// The batch of the items on an fr track, past every span of so many tracks: it is sized last.
+// The batch of the items that cross an fr track, past every span of so many tracks: it is sized last.
 pub fn fr_batch(tracks: usize) -> usize
     requires { ⌜ tracks ≤ mostTracks ⌝ }
     ensures { λ r. ⌜ r ≡ frBatch tracks ⌝ }

@@ -1,14 +1,8 @@
--- Two tests that must both pass, the second made only where the first passed, in either order. Assumes nothing.
+-- Two tests that must both pass, the first made only where the second passed. Assumes nothing.
 use mathlib.Core.Path.{_≡_}
 use mathlib.Core.Bool.{Bool, true, false, _&&_, and-true, and-false}
 
 module _ (x y : Bool) where
-  pub both-by-first : {b : Bool} → x ≡ true → b ≡ y → b ≡ x && y
-  both-by-first e f = rw e f
-
-  pub none-by-first : x ≡ false → false ≡ x && y
-  none-by-first e = rw e
-
   pub both-by-second : {b : Bool} → y ≡ true → b ≡ x → b ≡ x && y
   both-by-second e f = rw (e, and-true) f
 

@@ -29,7 +29,7 @@ module _ (a : Fault) (rest : List Fault) where
   unfolding firstOf
   next-of-fine p q = rw (← p) q
 
--- the last three
-pub first-three : (a b c : Fault) → first a (first b c) ≡ firstOf (a ∷ b ∷ c ∷ [])
+-- the last two
+pub first-two : (a b : Fault) → first a b ≡ firstOf (a ∷ b ∷ [])
 unfolding firstOf
-first-three a b c = rw (first-fine c)
+first-two a b = rw (first-fine b)

@@ -76,11 +76,11 @@ pub row-falls : check (auto ∷ []) (itemOn 0 1 (Given 1) (Given 3) (Given 2)) �
 unfolding recordFault firstOf lowest some
 row-falls = refl
 
--- an fr track: in a span of 1, and in a span of 2
+-- an fr track is spanned like any other: in a span of 1, and in a span of 2
 pub one-fr-track : check (fr 1000 ∷ auto ∷ []) (itemOn 0 1 (Given 1) (Given 2) (Given 3)) ≡ fine
 unfolding recordFault firstOf lowest some
 one-fr-track = refl
 
-pub span-crosses-fr : check (fr 1000 ∷ auto ∷ []) (itemOn 0 2 (Given 1) (Given 2) (Given 3)) ≡ fault 11 3
+pub span-crosses-fr : check (fr 1000 ∷ auto ∷ []) (itemOn 0 2 (Given 1) (Given 2) (Given 3)) ≡ fine
 unfolding recordFault firstOf lowest some
 span-crosses-fr = refl

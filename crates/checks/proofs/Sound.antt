@@ -101,7 +101,7 @@ item-fits n i e =
 -- ---- the board
 
 module _ (s : Space) (ts : List SheetTrack) (is : List Item) (e : recordFault s ts is ≡ fine) where
-  -- 7 found nothing, and 8 to 11 found nothing
+  -- 7 found nothing, and 8 to 10 found nothing
   over-none : (lowestSpace 7 spaceOver s ≡ fine) × (first (lowestTrack 7 trackOver ts) (lowestItem 7 itemOver ts is) ≡ fine)
   unfolding recordFault firstOf
   over-none = fine-both (lowestSpace 7 spaceOver s) _ (fine-both (overFault s ts is) _ e .0)

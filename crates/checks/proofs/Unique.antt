@@ -6,7 +6,7 @@ use lib.Dec.{eqb}
 use Rattle.records.specs.Rule.{Fault, fine, fault}
 use Rattle.checks.specs.Answer.{numberOf, placeOf, faultOf}
 use Rattle.checks.specs.declared.refusal.Refusal.{Refusal}
-use Rattle.checks.specs.declared.refusal.Refusal.the-variants.{NumberOver, OutsideTracks, ContributionMissing, RowFalls, CrossesFr}
+use Rattle.checks.specs.declared.refusal.Refusal.the-variants.{NumberOver, OutsideTracks, ContributionMissing, RowFalls}
 use Rattle.checks.specs.declared.refusal.Fault as found
 use Rattle.checks.specs.declared.refusal.Fault.the-variants.{Fine, Found}
 
@@ -14,8 +14,7 @@ refusalOf : (number place : ℕ) → Refusal
 refusalOf number place =
     cond (eqb number 7) (NumberOver place)
     (cond (eqb number 8) (OutsideTracks place)
-    (cond (eqb number 9) (ContributionMissing place)
-    (cond (eqb number 10) (RowFalls place) (CrossesFr place))))
+    (cond (eqb number 9) (ContributionMissing place) (RowFalls place)))
 
 refusal-again : (r : Refusal) → refusalOf (numberOf r) (placeOf r) ≡ r
 unfolding refusalOf
@@ -23,7 +22,6 @@ refusal-again (NumberOver place) = refl
 refusal-again (OutsideTracks place) = refl
 refusal-again (ContributionMissing place) = refl
 refusal-again (RowFalls place) = refl
-refusal-again (CrossesFr place) = refl
 
 answerOf : Fault → found.Fault
 answerOf fine = Fine

@@ -1,10 +1,10 @@
--- Numbers 7 to 11 of the build paper's table, in their order: which record of a board is at fault, and for what. This page goes
+-- Numbers 7 to 10 of the build paper's table, in their order: which record of a board is at fault, and for what. This page goes
 -- by what a sheet says of its space, tracks and items, and it computes; what an item spans has the page before it,
 -- `crates/spanned/specs/Rule.antt`, whose names it hands on. It assumes nothing of the code.
 use Prim.Native.Nat.{ℕ, _+_}
-use mathlib.Core.Bool.{Bool, true, false, cond, _&&_, _||_}
+use mathlib.Core.Bool.{Bool, false, cond, _&&_, _||_}
 use mathlib.Core.List.{List, [], _∷_, map}
-use lib.Dec.{ltb, leb, eqb}
+use lib.Dec.{ltb, eqb}
 use lib.ListN.{length}
 use Rattle.laws.specs.Lists.{some}
 use Rattle.rounds.specs.Rule.{mostDots}
@@ -24,7 +24,7 @@ use Rattle.sheet_kinds.specs.Rule.{resolved}
 use Rattle.sheet_kinds.specs.declared.space.Space.{Space}
 use Rattle.sheet_kinds.specs.declared.track.SheetTrack.{SheetTrack}
 use Rattle.records.specs.Rule.{Fault, fine, fault, first}
-pub use Rattle.spanned.specs.Rule.{mostSize, mostFactor, mostContribution, spanned, isFixedMinimum, isFixedMaximum, isFrMaximum, isFixed, isFr, isUnfixed, isMeasured, crossesFr, contributionKinds, isAbsent, lacksContribution}
+pub use Rattle.spanned.specs.Rule.{mostSize, mostFactor, mostContribution, spanned, isFixedMinimum, isFixedMaximum, isFixed, isUnfixed, isMeasured, contributionKinds, isAbsent, lacksContribution}
 
 -- ---- 7: a number is over its limit. What is absent is no number
 
@@ -76,11 +76,6 @@ isLacking ts i = isMeasured ts i && lacksContribution i
 abbrev pub isFalling : List Track → Item → Bool
 isFalling ts i = isMeasured ts i && falls i
 
--- ---- 11: span 2 or more crosses an fr track
-
-abbrev pub isCrossing : List Track → Item → Bool
-isCrossing ts i = leb 2 (i .span) && crossesFr ts i
-
 -- ---- The lowest record at fault
 
 -- of these, whose first is the record `place`
@@ -104,13 +99,12 @@ lowestItem number bad ts is = lowest number bad (1 + length ts) is
 abbrev pub overFault : Space → List SheetTrack → List Item → Fault
 overFault s ts is = first (lowestSpace 7 spaceOver s) (first (lowestTrack 7 trackOver ts) (lowestItem 7 itemOver ts is))
 
--- 8 to 11, of items on the tracks that the sizing reads
+-- 8 to 10, of items on the tracks that the sizing reads
 abbrev pub itemChecks : List Track → List Item → List Fault
 itemChecks ts is =
     lowestItem 8 (isOutside (length ts)) ts is
     ∷ lowestItem 9 (isLacking ts) ts is
     ∷ lowestItem 10 (isFalling ts) ts is
-    ∷ lowestItem 11 (isCrossing ts) ts is
     ∷ []
 
 abbrev pub recordChecks : Space → List SheetTrack → List Item → List Fault

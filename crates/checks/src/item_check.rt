@@ -2,7 +2,6 @@
 use crate::over::item_over;
 use crate::refusal::Refusal;
 use kinds::Item;
-use spanned::crosses_fr;
 use spanned::is_measured;
 use spanned::lacks_contribution;
 ghost use mathlib.Core.Path.{_≡_};
@@ -17,7 +16,6 @@ pub(crate) enum ItemCheck {
     Outside,
     Lacking,
     Falling,
-    Crossing,
 }
 
 impl ItemCheck {
@@ -40,12 +38,6 @@ impl ItemCheck {
                 }
                 false
             }
-            ItemCheck::Crossing => {
-                if item.span >= 2 {
-                    return crosses_fr(tracks, item);
-                }
-                false
-            }
         }
     }
 
@@ -57,7 +49,6 @@ impl ItemCheck {
             ItemCheck::Outside => Refusal::OutsideTracks { record: place },
             ItemCheck::Lacking => Refusal::ContributionMissing { record: place },
             ItemCheck::Falling => Refusal::RowFalls { record: place },
-            ItemCheck::Crossing => Refusal::CrossesFr { record: place },
         }
     }
 }

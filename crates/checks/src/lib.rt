@@ -1,4 +1,4 @@
-// The records of a board at fault: refusals 7 to 11, on rows (specs/Rule.antt is the rule).
+// The records of a board at fault: refusals 7 to 10, on rows (specs/Rule.antt is the rule).
 mod item_check;
 mod lowest;
 mod over;
@@ -40,7 +40,7 @@ pub fn over_fault(space: Space, tracks: &[[u32; 4]], items: &[[u32; 7]]) -> Faul
     tracks_fault.first(items_fault)
 }
 
-// 8 to 11 of the items, on the tracks that the sizing reads: a row says these too.
+// 8 to 10 of the items, on the tracks that the sizing reads: a row says these too.
 pub fn item_fault(tracks: &[[u32; 4]], items: &[[u32; 7]]) -> Fault
     ensures { λ r. ⌜ faultOf r ≡ firstOf (itemChecks (map trackOf (now (tracks .entry))) (map itemOf (now (items .entry)))) ⌝ }
 {
@@ -51,6 +51,5 @@ pub fn item_fault(tracks: &[[u32; 4]], items: &[[u32; 7]]) -> Fault
     // Every item is on tracks that are there.
     let lacking = lowest_item(ItemCheck::Lacking, tracks, items);
     let falling = lowest_item(ItemCheck::Falling, tracks, items);
-    let crossing = lowest_item(ItemCheck::Crossing, tracks, items);
-    lacking.first(falling.first(crossing))
+    lacking.first(falling)
 }

@@ -12,8 +12,6 @@ pub enum Refusal {
     ContributionMissing { record: usize },
     // A measured item has a contribution below an earlier one.
     RowFalls { record: usize },
-    // An item of span 2 or more spans an fr track.
-    CrossesFr { record: usize },
 }
 
 impl Refusal {
@@ -25,7 +23,6 @@ impl Refusal {
             Refusal::OutsideTracks { record: _ } => 8,
             Refusal::ContributionMissing { record: _ } => 9,
             Refusal::RowFalls { record: _ } => 10,
-            Refusal::CrossesFr { record: _ } => 11,
         }
     }
 
@@ -37,7 +34,6 @@ impl Refusal {
             Refusal::OutsideTracks { record } => record,
             Refusal::ContributionMissing { record } => record,
             Refusal::RowFalls { record } => record,
-            Refusal::CrossesFr { record } => record,
         }
     }
 }

@@ -7,9 +7,11 @@ use Rattle.laws.specs.Lists.{keep}
 use Rattle.kinds.specs.Kinds.{Row, trackOf, itemOf}
 use Rattle.kinds.specs.declared.constraint.Constraint.{Constraint}
 use Rattle.lines.specs.declared.line.Line.{Line}
-use Rattle.lines.specs.Rule.{measuredItems, inOneTrack, start, singles, batched, missing, content}
+use Rattle.lines.specs.Rule.{measuredItems, inOneTrack, start, singles, missing, content}
 use Rattle.lines.specs.Chains.{frBatch, batches, batchAt}
 use Rattle.letters.specs.Increases.{NoIncrease}
+use Rattle.letters.specs.declared.batch.Batch.the-variants.{Last}
+use Rattle.letters.specs.Batches.{batchedIn}
 use Rattle.spans.specs.Work.{longerLines}
 
 -- a head for each batch, a next beside each item; beside each track a line, no increase and scratch; and a total more than tracks
@@ -28,7 +30,7 @@ preparedLines c tracks items = singles c (keep (inOneTrack (map trackOf tracks))
 
 -- steps 3 and 4, from the chains of the batches
 abbrev pub spreadLines : Constraint → List Row → (heads nexts : List ℕ) → List Row → List Line
-spreadLines c items heads nexts lines = missing (batched c (batchAt items heads nexts (frBatch (length lines))) (longerLines c items heads nexts lines))
+spreadLines c items heads nexts lines = missing (batchedIn Last c (batchAt items heads nexts (frBatch (length lines))) (longerLines c items heads nexts lines))
 
 -- steps 1 to 4
 abbrev pub contentLines : Constraint → (tracks items : List Row) → List Line

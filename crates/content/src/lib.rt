@@ -3,6 +3,7 @@
 use chains::fr_batch;
 use chains::gather;
 use kinds::Constraint;
+use letters::Batch;
 use letters::tally;
 use lines::Pass;
 use lines::pass_over;
@@ -84,6 +85,7 @@ fn spread(
     );
     let last = fr_batch(lines.len());
     batched(
+        Batch::Last,
         constraint,
         heads[last],
         nexts,

@@ -1,4 +1,4 @@
--- The fr by cases is the rule's, where the batch is the items on an fr track. Assumes nothing.
+-- The fr by cases is the rule's, where the batch is the items that cross an fr track. Assumes nothing.
 use mathlib.Core.Path.{_≡_, refl}
 use mathlib.Core.List.{List}
 use Rattle.laws.specs.Lists.{keep}

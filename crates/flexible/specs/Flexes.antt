@@ -50,7 +50,7 @@ heldNext fr [] hs = []
 abbrev pub lineFr : Line → Fr → Fr
 lineFr l fr = cond (isFr (l .track)) (baseFr l fr) fr
 
--- over the items of a batch, which are those on an fr track
+-- over the items of a batch, which are those that cross an fr track
 unfoldable pub batchFr : List Measured → List Line → Fr
 batchFr batch ls = inTurn (itemFr ls) batch (basesFr ls)
 

@@ -1,4 +1,4 @@
-// The fr under max-content: the largest that a base or an item on an fr track asks for.
+// The fr under max-content: the largest that a base asks for, or an item that crosses an fr track.
 use crate::search;
 use crate::tracks;
 use kinds::ContributionKind;

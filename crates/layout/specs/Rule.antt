@@ -25,7 +25,7 @@ pub record BoardOutcome : Type 0 where
 abbrev pub boardOutcome : BoardTold → List Row → BoardOutcome
 boardOutcome told sizes = record { told = told; sizes = sizes }
 
--- 6, then 7 to 11
+-- 6, then 7 to 10
 abbrev pub layoutFault : Space → List SheetTrack → List Item → List Row → Fault
 layoutFault s ts is sizes = first (enough (length ts) (length sizes)) (recordFault s ts is)
 

@@ -28,7 +28,7 @@ pub enum LayoutAnswer {
     Refused(Refusal),
 }
 
-// 6, then 7 to 11, then the sizes: base and limit of track t become `sizes[t]`; those past the tracks, and all of them after a refusal,
+// 6, then 7 to 10, then the sizes: base and limit of track t become `sizes[t]`; those past the tracks, and all of them after a refusal,
 // keep what they hold. Between items and sizes stands the store of the sizing.
 pub fn lay_out(
     space: Space,

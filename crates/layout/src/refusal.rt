@@ -5,7 +5,7 @@ ghost use Rattle.layout.specs.Answer.{numberOf, placeOf};
 pub enum Refusal {
     // 6: fewer sizes than tracks.
     LentTooShort,
-    // 7 to 11.
+    // 7 to 10.
     Record(checks::Refusal),
 }
 

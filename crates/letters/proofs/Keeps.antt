@@ -1,6 +1,6 @@
--- What a letter keeps: its gains and increases are as many as the lines, no gain is more than the extra dots, and sizes stay
--- within the limit of a contribution. Assumes nothing.
-use mathlib.Core.Path.{_≡_, refl, sym, ap, _∙_}
+-- What a letter keeps: its gains are as many as the lines, no gain is more than the extra dots, and sizes stay within the limit of a
+-- contribution. Assumes nothing.
+use mathlib.Core.Path.{_≡_, refl, sym, _∙_}
 use mathlib.Core.Logic.{⊎-elim}
 use mathlib.Core.Bool.{Bool, true, false, cond}
 use mathlib.Core.List.{List, [], _∷_, map, zipWith}
@@ -8,11 +8,9 @@ use Prim.Native.Nat.{ℕ, zero, suc, _+_, _-_, _≤_, _<_, zero-le}
 use native.Mathlib.Nat.{le-trans, le-of-suc-le-suc}
 use native.Mathlib.Omega.{arith}
 use lib.Dec.{ltb}
-use lib.ListN.{length, getD, drop, replicate, length-take, length-replicate, length-map, List·getD-map, List·getD-eq-default}
-use lib.Seq.{getD-take, getD-drop}
+use lib.ListN.{length, getD, replicate, length-map, List·getD-map, List·getD-eq-default}
 use Rattle.laws.specs.Tests.{lt-or-ge}
-use Rattle.laws.specs.Lists.{larger, largerFrom, inTurn, All, all-at, length-zip}
-use Rattle.laws.specs.Changes.{in-turn-long}
+use Rattle.laws.specs.Lists.{inTurn, All, all-at, length-zip}
 use Rattle.laws.specs.Sums.{sum, getD-le-sum}
 use Rattle.rounds.specs.Rule.{gainsOf, fill}
 use Rattle.rounds.proofs.Tied.{Fresh}
@@ -25,16 +23,21 @@ use Rattle.lines.specs.declared.limit.Limit.{Limit}
 use Rattle.lines.specs.declared.limit.Limit.the-variants.{None, UpTo}
 use Rattle.lines.specs.declared.line.Line.{Line}
 use Rattle.lines.specs.declared.measured.Measured.{Measured}
-use Rattle.lines.specs.Rule.{contributionAt, orBase, limitPlus, firstTrack, restTrack, shares, extraOf, gainsBy, increasedBy, increases, raise, spanned}
+use Rattle.lines.specs.Rule.{contributionAt, number, orBase, limitPlus, firstTrack, restTrack, shares, affectsFr, sharesByFactor, extraOf, gainsBy, increasedBy, increases, raise, spanned}
 use Rattle.lines.specs.Rule as rule
 use Rattle.lines.specs.Rows.{limitNumber, lineOf, linesOf}
 use Rattle.lines.specs.Fits.{LineFits, LinesFit, MeasuredFits, MeasuredFit}
+use Rattle.lines.proofs.ByFactor.{share-le, length-share}
+use Rattle.lines.proofs.Increases.{getD-zeros, larger-from-le, spanned-at}
 use Rattle.lines.proofs.Fits.{at-least-le, limit-size-le, limited-le, for-auto-le}
 use Rattle.letters.specs.declared.letter.Letter.{Letter}
 use Rattle.letters.specs.declared.letter.Letter.the-variants.{A, B, C, D, E, F}
 use Rattle.letters.specs.Letters.{letterOf, most}
+use Rattle.letters.specs.declared.batch.Batch.{Batch}
+use Rattle.letters.specs.declared.batch.Batch.the-variants.{OfSpan, Last}
+use Rattle.letters.specs.Batches.{sharesIn}
 use Rattle.letters.proofs.Nothing.{length-first}
-use Rattle.letters.proofs.Shared.{firstFill, first-fresh, zip-fresh, getD-zeros}
+use Rattle.letters.proofs.Shared.{firstFill, first-fresh, zip-fresh}
 
 -- ---- the gains of an item
 
@@ -68,49 +71,25 @@ module _ (letter : rule.Letter) (extra : ℕ) (on : List Line) where
       let d = gain-add-left-le (firstFill letter extra on .left) (zipWith (restTrack letter on) on firstGains) rest-fresh i in
       omega arith
 
--- ---- the larger of each two
+-- ---- in either sort of batch
 
-length-larger : (gs ps : List ℕ) → length (larger gs ps) ≡ length ps
-unfolding larger
-length-larger [] ps = refl
-length-larger (g ∷ gs) [] = refl
-length-larger (g ∷ gs) (p ∷ ps) = ap suc (length-larger gs ps)
+length-by-factor : (letter : rule.Letter) (extra : ℕ) (on : List Line) → length (sharesByFactor letter extra on) ≡ length on
+unfolding sharesByFactor
+length-by-factor letter extra on =
+    length-share extra (map (affectsFr letter) on) (map number on) (length-map on number ∙ sym (length-map on (affectsFr letter)))
+    ∙ length-map on (affectsFr letter)
 
-length-larger-from : (i : ℕ) (gs ps : List ℕ) → length (largerFrom i gs ps) ≡ length ps
-unfolding largerFrom
-length-larger-from zero gs ps = length-larger gs ps
-length-larger-from (suc i) gs [] = refl
-length-larger-from (suc i) gs (p ∷ ps) = ap suc (length-larger-from i gs ps)
+by-factor-le : (letter : rule.Letter) (extra : ℕ) (on : List Line) (i : ℕ) → getD (sharesByFactor letter extra on) i 0 ≤ extra
+unfolding sharesByFactor
+by-factor-le letter extra on = share-le extra (map (affectsFr letter) on) (map number on)
 
-larger-le : (gs ps : List ℕ) (i m : ℕ) → getD gs i 0 ≤ m → getD ps i 0 ≤ m → getD (larger gs ps) i 0 ≤ m
-unfolding larger
-larger-le [] ps i m g p = p
-larger-le (g ∷ gs) [] i m h p = p
-larger-le (g ∷ gs) (q ∷ ps) zero m h p = omega arith
-larger-le (g ∷ gs) (q ∷ ps) (suc i) m h p = larger-le gs ps i m h p
+pub length-shares-in : (kind : Batch) (letter : rule.Letter) (extra : ℕ) (on : List Line) → length (sharesIn kind letter extra on) ≡ length on
+length-shares-in OfSpan = length-shares
+length-shares-in Last = length-by-factor
 
-larger-from-le : (s : ℕ) (gs ps : List ℕ) (i m : ℕ) → ((j : ℕ) → s + j ≡ i → getD gs j 0 ≤ m) → getD ps i 0 ≤ m → getD (largerFrom s gs ps) i 0 ≤ m
-unfolding largerFrom
-larger-from-le zero gs ps i m g p = larger-le gs ps i m (g i (omega arith)) p
-larger-from-le (suc s) gs [] i m g p = p
-larger-from-le (suc s) gs (q ∷ ps) zero m g p = p
-larger-from-le (suc s) gs (q ∷ ps) (suc i) m g p = larger-from-le s gs ps i m (λ (j : ℕ) (e : s + j ≡ i). g j (omega arith)) p
-
--- ---- the increases of a batch
-
-length-in-turn : (letter : rule.Letter) (c : Constraint) (ls : List Line) (batch : List Measured) (ps : List ℕ)
-    → length (inTurn (increasedBy letter c ls) batch ps) ≡ length ps
-length-in-turn letter c ls batch ps =
-    in-turn-long (increasedBy letter c ls) (λ i qs. length-larger-from (i .start) (gainsBy letter c i (spanned i ls)) qs) batch ps
-
--- as many as the lines
-pub length-increases : (letter : rule.Letter) (c : Constraint) (batch : List Measured) (ls : List Line) → length (increases letter c batch ls) ≡ length ls
-unfolding increases
-length-increases letter c batch ls = length-in-turn letter c ls batch (replicate (length ls) 0) ∙ length-replicate (length ls) 0
-
-pub length-raise : (letter : rule.Letter) (c : Constraint) (batch : List Measured) (ls : List Line) → length (raise c batch letter ls) ≡ length ls
-unfolding raise
-length-raise letter c batch ls = length-zip (letter .grown) ls (increases letter c batch ls) (length-increases letter c batch ls)
+pub shares-in-le : (kind : Batch) (letter : rule.Letter) (extra : ℕ) (on : List Line) (i : ℕ) → getD (sharesIn kind letter extra on) i 0 ≤ extra
+shares-in-le OfSpan = shares-le
+shares-in-le Last = by-factor-le
 
 -- ---- a contribution is within its limit, and so is what it is measured against
 
@@ -135,13 +114,6 @@ present-le F l f = limit-size-le l f
 
 -- ---- no increase takes a line over the limit
 
--- the line at the place j of those spanned
-spanned-at : (i : Measured) (ls : List Line) (j : ℕ) (d : Line) → j < length (spanned i ls) → getD (spanned i ls) j d ≡ getD ls (i .start + j) d
-spanned-at i ls j d h =
-    let e = length-take (i .span) (drop (i .start) ls) in
-    let k : j < i .span = omega arith in
-    getD-take (i .span) (drop (i .start) ls) j d k ∙ getD-drop (i .start) ls j d
-
 -- what a line has is in the sum of what the lines have
 present-le-sum : (present : Line → ℕ) (on : List Line) (j : ℕ) (d : Line) → j < length on → present (getD on j d) ≤ sum (map present on)
 present-le-sum present on j d h =
@@ -152,37 +124,37 @@ present-le-sum present on j d h =
     same (x ∷ xs) zero d h = omega arith
     same (x ∷ xs) (suc k) d h = same xs k d (le-of-suc-le-suc h)
 
-module _ (letter : Letter) (c : Constraint) (ls : List Line) (d : Line) where
+module _ (kind : Batch) (letter : Letter) (c : Constraint) (ls : List Line) (d : Line) where
   -- room above the line at the place k, up to the limit
   abbrev above : ℕ → ℕ
   above k = mostSize - letterOf letter .present (getD ls k d)
 
-  gain-fits : {n : ℕ} (i : Measured) (j : ℕ) → MeasuredFits n i → getD (gainsBy (letterOf letter) c i (spanned i ls)) j 0 ≤ above (i .start + j)
+  gain-fits : {n : ℕ} (i : Measured) (j : ℕ) → MeasuredFits n i → getD (gainsBy (sharesIn kind) (letterOf letter) c i (spanned i ls)) j 0 ≤ above (i .start + j)
   unfolding gainsBy
   gain-fits i j f =
       ⊎-elim
       (λ (h : j < length (spanned i ls)).
-      let le = shares-le (letterOf letter) (extraOf (letterOf letter) c i (spanned i ls)) (spanned i ls) j in
+      let le = shares-in-le kind (letterOf letter) (extraOf (letterOf letter) c i (spanned i ls)) (spanned i ls) j in
       let asked = contribution-le letter c i (spanned i ls) f in
       let had : letterOf letter .present (getD ls (i .start + j) d) ≤ sum (map (letterOf letter .present) (spanned i ls)) =
       rw (spanned-at i ls j d h) at (present-le-sum (letterOf letter .present) (spanned i ls) j d h) in
       omega arith)
       (λ (h : length (spanned i ls) ≤ j).
-      let z : getD (shares (letterOf letter) (extraOf (letterOf letter) c i (spanned i ls)) (spanned i ls)) j 0 ≡ 0 =
-      List·getD-eq-default (shares (letterOf letter) (extraOf (letterOf letter) c i (spanned i ls)) (spanned i ls)) 0 (rw (length-shares (letterOf letter) (extraOf (letterOf letter) c i (spanned i ls)) (spanned i ls)) h) in
+      let z : getD (sharesIn kind (letterOf letter) (extraOf (letterOf letter) c i (spanned i ls)) (spanned i ls)) j 0 ≡ 0 =
+      List·getD-eq-default (sharesIn kind (letterOf letter) (extraOf (letterOf letter) c i (spanned i ls)) (spanned i ls)) 0 (rw (length-shares-in kind (letterOf letter) (extraOf (letterOf letter) c i (spanned i ls)) (spanned i ls)) h) in
       omega arith)
       (lt-or-ge j (length (spanned i ls)))
 
-  in-turn-fits : (n : ℕ) (batch : List Measured) (ps : List ℕ) (k : ℕ) → MeasuredFit n batch → getD ps k 0 ≤ above k → getD (inTurn (increasedBy (letterOf letter) c ls) batch ps) k 0 ≤ above k
+  in-turn-fits : (n : ℕ) (batch : List Measured) (ps : List ℕ) (k : ℕ) → MeasuredFit n batch → getD ps k 0 ≤ above k → getD (inTurn (increasedBy (sharesIn kind) (letterOf letter) c ls) batch ps) k 0 ≤ above k
   unfolding inTurn All
   in-turn-fits n [] ps k f h = h
   in-turn-fits n (i ∷ batch) ps k f h =
-      in-turn-fits n batch (increasedBy (letterOf letter) c ls i ps) k (f .1)
-      (larger-from-le (i .start) (gainsBy (letterOf letter) c i (spanned i ls)) ps k (above k)
+      in-turn-fits n batch (increasedBy (sharesIn kind) (letterOf letter) c ls i ps) k (f .1)
+      (larger-from-le (i .start) (gainsBy (sharesIn kind) (letterOf letter) c i (spanned i ls)) ps k (above k)
       (λ (j : ℕ) (e : i .start + j ≡ k). rw e at (gain-fits i j (f .0))) h)
 
   pub increases-fit : (n : ℕ) (batch : List Measured) → LinesFit ls → MeasuredFit n batch → (k : ℕ) → k < length ls
-      → letterOf letter .present (getD ls k d) + getD (increases (letterOf letter) c batch ls) k 0 ≤ mostSize
+      → letterOf letter .present (getD ls k d) + getD (increases (sharesIn kind) (letterOf letter) c batch ls) k 0 ≤ mostSize
   unfolding increases
   increases-fit n batch fl fb k h =
       let p = present-le letter (getD ls k d) (all-at LineFits ls k d fl h) in
@@ -191,10 +163,10 @@ module _ (letter : Letter) (c : Constraint) (ls : List Line) (d : Line) where
       omega arith
 
 -- as `apply` asks it, of rows
-pub increases-fit-rows : (letter : Letter) (c : Constraint) (n : ℕ) (batch : List Measured) (rows : List Row) → LinesFit (linesOf rows) → MeasuredFit n batch
-    → (i : ℕ) → i < length rows → letterOf letter .present (lineOf (getD rows i [])) + getD (increases (letterOf letter) c batch (linesOf rows)) i 0 ≤ most
-increases-fit-rows letter c n batch rows fl fb i h =
-    let k = increases-fit letter c (linesOf rows) (lineOf []) n batch fl fb i (rw (length-map rows lineOf) h) in
+pub increases-fit-rows : (kind : Batch) (letter : Letter) (c : Constraint) (n : ℕ) (batch : List Measured) (rows : List Row) → LinesFit (linesOf rows) → MeasuredFit n batch
+    → (i : ℕ) → i < length rows → letterOf letter .present (lineOf (getD rows i [])) + getD (increases (sharesIn kind) (letterOf letter) c batch (linesOf rows)) i 0 ≤ most
+increases-fit-rows kind letter c n batch rows fl fb i h =
+    let k = increases-fit kind letter c (linesOf rows) (lineOf []) n batch fl fb i (rw (length-map rows lineOf) h) in
     le-trans (rw (List·getD-map lineOf rows i []) at k) (omega arith)
 
 -- ---- a raised line is within the limit
@@ -225,7 +197,7 @@ all-grown letter d (l ∷ ls) (x ∷ xs) f h = (
   all-grown letter d ls xs (f .1) (λ (i : ℕ) (k : i < length ls). h (suc i) (omega arith)),
 )
 
-pub raise-fits : (letter : Letter) (c : Constraint) (n : ℕ) (batch : List Measured) (ls : List Line) → LinesFit ls → MeasuredFit n batch
-    → LinesFit (raise c batch (letterOf letter) ls)
+pub raise-fits : (kind : Batch) (letter : Letter) (c : Constraint) (n : ℕ) (batch : List Measured) (ls : List Line) → LinesFit ls → MeasuredFit n batch
+    → LinesFit (raise (sharesIn kind) c batch (letterOf letter) ls)
 unfolding raise
-raise-fits letter c n batch ls fl fb = all-grown letter (lineOf []) ls (increases (letterOf letter) c batch ls) fl (increases-fit letter c ls (lineOf []) n batch fl fb)
+raise-fits kind letter c n batch ls fl fb = all-grown letter (lineOf []) ls (increases (sharesIn kind) (letterOf letter) c batch ls) fl (increases-fit kind letter c ls (lineOf []) n batch fl fb)

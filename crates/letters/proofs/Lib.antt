@@ -7,4 +7,6 @@ pub mod Shared
 pub mod Nothing
 pub mod ApplySteps
 pub mod Keeps
+pub mod Batches
+pub mod ByFactor
 pub mod Spanned

@@ -28,10 +28,11 @@ use Rattle.lines.specs.Rule.{argumentOf, argument, roomTo, limitSize, firstTrac
 use Rattle.lines.specs.Rule as rule
 use Rattle.lines.specs.Rows.{limitNumber, lineOf, linesOf}
 use Rattle.lines.specs.Fits.{LineFits}
+use Rattle.lines.proofs.Increases.{getD-zeros}
 use Rattle.letters.specs.declared.letter.Letter.{Letter}
 use Rattle.letters.specs.declared.letter.Letter.the-variants.{A, B, C, D, E, F}
 use Rattle.letters.specs.declared.share.Share.{Share}
-use Rattle.letters.specs.declared.share.Share.the-variants.{Maximise, Stretch}
+use Rattle.letters.specs.declared.share.Share.the-variants.{Maximise, Stretch, Plain}
 use Rattle.letters.specs.Letters.{letterOf, most}
 use Rattle.letters.specs.Shares.{trackIn, shareTrack, shareTracks, isTaker, restOf, restTracks}
 
@@ -46,6 +47,7 @@ zip-fresh f z (l ∷ ls) (g ∷ gains) = (z l g, zip-fresh f z ls gains)
 share-gain : (share : Share) (l : Line) (g : ℕ) → shareTrack share l g .gain ≡ 0
 share-gain Maximise l g = refl
 share-gain Stretch l g = refl
+share-gain (Plain letter) l g = refl
 
 pub share-fresh : (share : Share) (ls : List Line) (gains : List ℕ) → Fresh (shareTracks share ls gains)
 unfolding shareTracks
@@ -93,11 +95,6 @@ module _ (share : Share) (dots : ℕ) (ls : List Line) (gains rs xs : List ℕ) 
   )
 
 -- ---- a share on top of no gains
-
-pub getD-zeros : (n i : ℕ) → _≡_ {A = ℕ} (getD (replicate n 0) i 0) 0
-getD-zeros zero i = refl
-getD-zeros (suc n) zero = refl
-getD-zeros (suc n) (suc i) = getD-zeros n i
 
 pub zeros-le : (n : ℕ) (zs : List ℕ) → zs ≡ replicate n 0 → (i : ℕ) → getD zs i 0 ≤ mostDots
 zeros-le n zs e i = let z : getD zs i 0 ≡ 0 = ap (λ (ys : List ℕ). getD ys i 0) e ∙ getD-zeros n i in omega arith

@@ -2,3 +2,5 @@ pub mod Letters
 pub mod Increases
 pub mod Shares
 pub mod Totals
+pub mod Batches
+pub mod Factors

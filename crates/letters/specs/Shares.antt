@@ -9,13 +9,14 @@ use Rattle.rounds.specs.Rule as fill
 use Rattle.rounds.specs.Rests.{caps, lost}
 use Rattle.kinds.specs.Kinds.{Row}
 use Rattle.lines.specs.declared.line.Line.{Line}
-use Rattle.lines.specs.Rule.{inFill, firstTrack, maximiseTrack, stretchTrack}
+use Rattle.lines.specs.ByFactor.{unlimited}
+use Rattle.lines.specs.Rule.{inFill, firstTrack, maximiseTrack, stretchTrack, affectsFr}
 use Rattle.lines.specs.Rule as rule
 use Rattle.lines.specs.Rows.{linesOf}
 use Rattle.letters.specs.declared.letter.Letter.{Letter}
 use Rattle.letters.specs.Letters.{letterOf, most}
 use Rattle.letters.specs.declared.share.Share.{Share}
-use Rattle.letters.specs.declared.share.Share.the-variants.{Maximise, Stretch}
+use Rattle.letters.specs.declared.share.Share.the-variants.{Maximise, Stretch, Plain}
 
 -- an affected track that takes what remains
 abbrev pub isTaker : rule.Letter → Line → Bool
@@ -31,6 +32,7 @@ restTracks letter takersOnly ls gains = zipWith (restOf letter takersOnly) ls ga
 abbrev pub trackIn : Share → Line → fill.Track
 trackIn Maximise l = maximiseTrack l
 trackIn Stretch l = stretchTrack l
+trackIn (Plain letter) l = unlimited (affectsFr (letterOf letter) l)
 
 -- whatever gain the line has
 abbrev pub shareTrack : Share → Line → ℕ → fill.Track
@@ -53,7 +55,7 @@ restCaps letter takersOnly dots lines gains = caps dots (restTracks (letterOf le
 abbrev pub restFill : Letter → Bool → ℕ → List Row → List ℕ → Fill
 restFill letter takersOnly dots lines gains = fill dots (restTracks (letterOf letter) takersOnly (linesOf lines) gains)
 
--- ---- The shares of steps 5 and 7
+-- ---- The shares by one fill alone
 
 abbrev pub shareFill : Share → ℕ → List Row → List ℕ → Fill
 shareFill share dots lines gains = fill dots (shareTracks share (linesOf lines) gains)

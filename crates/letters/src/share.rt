@@ -1,5 +1,6 @@
 // Shares of dots among lines: each gets what the fill gives it, on top of the gain that it has. The two shares of a letter find
 // each cap once, and keep it in the gain while the rounds run. The rests are scratch: what stands in them is not read.
+use crate::by_factor::affects_fr;
 use crate::letter::Letter;
 use kinds::Maximum;
 use lines::Limit;
@@ -20,10 +21,11 @@ ghost use Rattle.lines.specs.Fits.{LinesFit};
 ghost use Rattle.letters.specs.Letters.{letterOf};
 ghost use Rattle.letters.specs.Shares.{trackIn, isTaker, firstCaps, firstFill, restCaps, restFill, shareFill, taken, Scratch, GainsFit, TakenFits};
 
-// What is shared out beside the letters: the dots of step 5, or those of step 7.
+// What is shared out by one fill alone: the dots of step 5, those of step 7, or those of a letter in the last batch where all factors are 0.
 pub enum Share {
     Maximise,
     Stretch,
+    Plain(Letter),
 }
 
 // A track that is not affected takes nothing.
@@ -72,6 +74,7 @@ impl Share {
         match self {
             Share::Maximise => cap_of(true, line.base_room(), dots),
             Share::Stretch => cap_of(is_auto(line), Limit::None, dots),
+            Share::Plain(letter) => cap_of(affects_fr(letter, line), Limit::None, dots),
         }
     }
 }
@@ -136,7 +139,7 @@ fn load_first(letter: Letter, dots: u32, lines: &[[u32; 8]], gains: &mut [u32], 
 }
 
 // Each rest is taken off its gain: of the cap that stands in it, what was taken stays.
-fn take_off(rests: &[u32], gains: &mut [u32])
+pub(crate) fn take_off(rests: &[u32], gains: &mut [u32])
     requires { ⌜ length (now rests) ≡ length (now gains) ⌝ }
     ensures { λ _. ⌜ now (gains .exit) ≡ lost (now (gains .entry)) (now (rests .entry)) ⌝ }
 {
@@ -227,7 +230,7 @@ fn share_rest(
 }
 
 // Both shares of a letter's extra dots; the second only if dots remain.
-pub fn share_extra(
+pub(crate) fn share_extra(
     letter: Letter,
     extra: u32,
     lines: &[[u32; 8]],

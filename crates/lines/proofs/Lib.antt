@@ -8,6 +8,11 @@ pub mod Starts
 pub mod Walks
 -- the chains of the batches
 pub mod Chains
+-- the share by factor, and the last batch
+pub mod Products
+pub mod ByFactor
+pub mod Increases
+pub mod LastBatch
 -- what every step keeps
 pub mod Fits
 pub mod Maximise

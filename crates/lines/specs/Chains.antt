@@ -43,7 +43,7 @@ abbrev pub Whole : List Row → List ℕ → ℕ → Type 0
 Whole items nexts first = first < length items → (i : Measured) × (is : List Measured) × (chained items nexts first ≡ i ∷ is)
 
 -- ---- The batches by number, on a board of so many tracks: none for items without part, one for each span, 1 also where there is no track, and
--- the last for items on an fr track
+-- the last for items that cross an fr track
 
 abbrev pub frBatch : ℕ → ℕ
 frBatch tracks = tracks + 2

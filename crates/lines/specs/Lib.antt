@@ -1,3 +1,4 @@
+pub mod ByFactor
 pub mod Rule
 pub mod Fr
 pub mod Rows

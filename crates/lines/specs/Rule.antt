@@ -1,9 +1,9 @@
 -- Sizing in dots: steps 1 to 7 and the board they give. This page follows the build paper's 'Sizing in dots' paragraph by
--- paragraph; the fill is the fill's own rule, and the fr search has its page beside this one. It assumes nothing of the
--- code and it computes. What the letters call kinds 1 to 6 are the sheet's tags.
+-- paragraph; the fill is the fill's own rule, and the share by factor and the fr search have their pages beside this one. It assumes
+-- nothing of the code and it computes. What the letters call kinds 1 to 6 are the sheet's tags.
 use Prim.Native.Nat.{ℕ, _+_, _-_, _*_, _/_, min, max}
 use mathlib.Core.Bool.{Bool, true, false, cond, not, _&&_, _||_}
-use mathlib.Core.List.{List, [], _∷_, map, zipWith, flatMap}
+use mathlib.Core.List.{List, [], _∷_, _++_, map, zipWith, flatMap}
 use lib.Dec.{ltb, eqb}
 use lib.ListN.{length, getD, take, drop, replicate}
 use lib.IntN.{ℤ, subℕ}
@@ -30,6 +30,7 @@ use Rattle.lines.specs.declared.limit.Limit.the-variants.{None, UpTo}
 use Rattle.lines.specs.declared.line.Line.{Line}
 use Rattle.lines.specs.declared.measured.Measured.{Measured}
 use Rattle.lines.specs.declared.fr.Fr.{Fr}
+use Rattle.lines.specs.ByFactor.{shareByFactor}
 use Rattle.lines.specs.Fr.{frOf, noFr, largerFr, Flex, search}
 
 -- ---- Lines: a track at work has a base size and a growth limit, and its limit may be infinitely growable
@@ -286,11 +287,15 @@ letterE = raisesLimits true (λ (i : Measured). contributionAt i kind.MinContent
 abbrev pub letterF : Letter
 letterF = raisesLimits false (λ (i : Measured). contributionAt i kind.MaxContent) (2 ∷ 4 ∷ 5 ∷ [])
 
--- (c) under max-content only
+-- (a) to (d), which raise bases: (c) under max-content only
+abbrev pub baseLetters : Constraint → List Letter
+baseLetters (Definite n) = letterA ∷ letterB ∷ letterD ∷ []
+baseLetters MinContent = letterA ∷ letterB ∷ letterD ∷ []
+baseLetters MaxContent = letterA ∷ letterB ∷ letterC ∷ letterD ∷ []
+
+-- and then (e) and (f), which raise limits
 abbrev pub letters : Constraint → List Letter
-letters (Definite n) = letterA ∷ letterB ∷ letterD ∷ letterE ∷ letterF ∷ []
-letters MinContent = letterA ∷ letterB ∷ letterD ∷ letterE ∷ letterF ∷ []
-letters MaxContent = letterA ∷ letterB ∷ letterC ∷ letterD ∷ letterE ∷ letterF ∷ []
+letters c = baseLetters c ++ (letterE ∷ letterF ∷ [])
 
 -- a track in a fill
 abbrev pub inFill : Bool → Room → fill.Track
@@ -322,35 +327,46 @@ shares letter extra on =
 abbrev pub extraOf : Letter → Constraint → Measured → List Line → ℕ
 extraOf letter c i on = letter .contribution c i on - sum (map (letter .present) on)
 
-unfoldable pub gainsBy : Letter → Constraint → Measured → List Line → List ℕ
-gainsBy letter c i on = shares letter (extraOf letter c i on) on
+-- how a batch shares the extra dots among the lines that an item spans
+abbrev pub Sharing : Type 0
+Sharing = Letter → ℕ → List Line → List ℕ
+
+unfoldable pub gainsBy : Sharing → Letter → Constraint → Measured → List Line → List ℕ
+gainsBy share letter c i on = share letter (extraOf letter c i on) on
 
 -- each track's increase is the largest any one item gave it
-abbrev pub increasedBy : Letter → Constraint → List Line → Measured → List ℕ → List ℕ
-increasedBy letter c ls i = largerFrom (i .start) (gainsBy letter c i (spanned i ls))
+abbrev pub increasedBy : Sharing → Letter → Constraint → List Line → Measured → List ℕ → List ℕ
+increasedBy share letter c ls i = largerFrom (i .start) (gainsBy share letter c i (spanned i ls))
 
-unfoldable pub increases : Letter → Constraint → List Measured → List Line → List ℕ
-increases letter c batch ls = inTurn (increasedBy letter c ls) batch (replicate (length ls) 0)
+unfoldable pub increases : Sharing → Letter → Constraint → List Measured → List Line → List ℕ
+increases share letter c batch ls = inTurn (increasedBy share letter c ls) batch (replicate (length ls) 0)
 
 -- increases are applied at the end of each lettered step
-unfoldable pub raise : Constraint → List Measured → Letter → List Line → List Line
-raise c batch letter ls = zipWith (letter .grown) ls (increases letter c batch ls)
+unfoldable pub raise : Sharing → Constraint → List Measured → Letter → List Line → List Line
+raise share c batch letter ls = zipWith (letter .grown) ls (increases share letter c batch ls)
 
--- one batch; without items it changes nothing
-unfoldable pub batched : Constraint → List Measured → List Line → List Line
-batched c [] ls = ls
-batched c (i ∷ is) ls = inTurn (raise c (i ∷ is)) (letters c) ls
+-- one batch, by its letters; without items it changes nothing
+unfoldable pub batched : Sharing → List Letter → Constraint → List Measured → List Line → List Line
+batched share steps c [] ls = ls
+batched share steps c (i ∷ is) ls = inTurn (raise share c (i ∷ is)) steps ls
 
 -- batch by batch in rising span
 abbrev pub inSpan : List Track → ℕ → Measured → Bool
 inSpan ts n i = eqb (i .span) n && not (onFr ts i)
 
 unfoldable pub longer : Constraint → List Track → List Measured → List Line → List Line
-longer c ts is ls = inTurn (λ (n : ℕ). batched c (keep (inSpan ts n) is)) (upFrom 2 (length ts - 1)) ls
+longer c ts is ls = inTurn (λ (n : ℕ). batched shares (letters c) c (keep (inSpan ts n) is)) (upFrom 2 (length ts - 1)) ls
 
--- a last batch takes the items in one fr track
+-- All items that cross an fr track form the one last batch, whatever their span. It may raise only affected fr tracks, and extra dots go by
+-- factor; (e) and (f) of this batch change nothing.
+abbrev pub affectsFr : Letter → Line → Bool
+affectsFr letter l = letter .affected l && isFr (l .track)
+
+unfoldable pub sharesByFactor : Letter → ℕ → List Line → List ℕ
+sharesByFactor letter extra on = shareByFactor extra (map (affectsFr letter) on) (map number on)
+
 unfoldable pub lastBatch : Constraint → List Track → List Measured → List Line → List Line
-lastBatch c ts is ls = batched c (keep (onFr ts) is) ls
+lastBatch c ts is ls = batched sharesByFactor (baseLetters c) c (keep (onFr ts) is) ls
 
 -- ---- 4. Missing limits become base
 
@@ -400,7 +416,7 @@ baseFr l fr = largerFr (frOf (l .base) (max 1000 (number l))) fr
 unfoldable pub basesFr : List Line → Fr
 basesFr ls = inTurn baseFr (keep (λ (l : Line). isFr (l .track)) ls) noFr
 
--- for each item on an fr track, the search over its track to its max-content contribution
+-- for each item that crosses an fr track, the search over all tracks it spans, inflexible ones included, to its max-content contribution
 abbrev pub itemFr : List Line → Measured → Fr → Fr
 itemFr ls i fr = largerFr (searchOver (contributionAt i kind.MaxContent) (spanned i ls)) fr
 

@@ -1,16 +1,25 @@
 -- The fill of tracks before their first round, for who fills rests of his own: the gains, the leftover and the rounds are the
 -- rule's, and gains and leftover add to the dots. Assumes nothing.
-use mathlib.Core.Path.{_≡_, sym, ap, ap₂, _∙_}
-use mathlib.Core.List.{List}
+use mathlib.Core.Path.{_≡_, refl, sym, ap, ap₂, _∙_}
+use mathlib.Core.Logic.{⊎-elim}
+use mathlib.Core.List.{List, [], _∷_}
 use Prim.Native.Nat.{ℕ, _+_, _≤_}
 use native.Mathlib.Omega.{arith}
 use lib.ListN.{length, getD}
 use Rattle.laws.specs.Sums.{sum, getD-le-sum}
 use Rattle.rounds.specs.Rule.{Track, gainsOf, fill}
-use Rattle.rounds.specs.Rests.{caps, State, stateOf, fillRests, lost}
+use Rattle.rounds.specs.Rests.{caps, openRests, State, stateOf, fillRests, lost}
 use Rattle.rounds.proofs.Caps.{caps-length-tracks, lost-le, lost-length}
-use Rattle.rounds.proofs.Level.{fill-length, fill-sum}
+use Rattle.rounds.proofs.RestRounds.{done-cases}
+use Rattle.rounds.proofs.Level.{fill-done, fill-length, fill-sum}
 use Rattle.rounds.proofs.Tied.{Fresh, Agree, fresh-agrees}
+
+-- where no rest is open, every cap is lost
+sum-lost : (cs xs : List ℕ) → length xs ≡ length cs → openRests xs ≡ 0 → sum (lost cs xs) ≡ sum cs
+unfolding openRests lost sum
+sum-lost [] xs e o = refl
+sum-lost (c ∷ cs) [] e o = absurd (omega arith)
+sum-lost (c ∷ cs) (x ∷ xs) e o = omega (arith, sum-lost cs xs (omega arith) (omega arith))
 
 module _ (dots : ℕ) (ts : List Track) (f : Fresh ts) where
   pub sum-gains-add-left : sum (gainsOf (fill dots ts .tracks)) + fill dots ts .left ≡ dots
@@ -21,6 +30,17 @@ module _ (dots : ℕ) (ts : List Track) (f : Fresh ts) where
   -- a gain, and what is left, are no more than the dots together
   pub gain-add-left-le : (i : ℕ) → getD (gainsOf (fill dots ts .tracks)) i 0 + fill dots ts .left ≤ dots
   gain-add-left-le i = let s = sum-gains-add-left in let g = getD-le-sum (gainsOf (fill dots ts .tracks)) i in omega arith
+
+  -- a track that could take all the dots leaves none over
+  pub none-left : (i : ℕ) → dots ≤ getD (caps dots ts) i 0 → fill dots ts .left ≡ 0
+  none-left i h =
+      let cs = caps dots ts in
+      sym (fresh-agrees dots ts f .left)
+      ∙ ⊎-elim
+      (λ (z : fillRests dots cs .left ≡ 0). z)
+      (λ (o : openRests (fillRests dots cs .rests) ≡ 0).
+      omega (arith, fill-sum dots cs, sum-lost cs (fillRests dots cs .rests) (fill-length dots cs) o, getD-le-sum cs i))
+      (done-cases (fillRests dots cs) (fill-done dots cs))
 
   -- no gain exceeds the track's room
   pub gain-le-cap : (i : ℕ) → getD (gainsOf (fill dots ts .tracks)) i 0 ≤ getD (caps dots ts) i 0

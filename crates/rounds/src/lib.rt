@@ -7,6 +7,7 @@ pub use numbers::larger;
 pub use numbers::less;
 pub use numbers::smaller;
 use rests::Found;
+pub use rests::take_odd;
 ghost use mathlib.Core.Path.{_≡_};
 ghost use Prim.Native.Nat.{ℕ, _+_, _≤_, _<_};
 ghost use lib.ListN.{length};

@@ -17,24 +17,24 @@ use Rattle.kinds.specs.declared.track.Track.{Track}
 use Rattle.lines.specs.declared.line.Line.{Line}
 use Rattle.lines.specs.declared.limit.Limit.the-variants.{UpTo}
 use Rattle.lines.specs.declared.measured.Measured.{Measured}
-use Rattle.lines.specs.Rule.{Letter, withBase, withLimit, limitSize, bases, measuredItems, onFr, settled, startLine, start, inOneTrack, singles, grownBase, letters, raise, batched, inSpan, longer, lastBatch, missing, content, filledLines, maximiseTrack, maximise, stretchTrack, stretched, frFor, finish, sizesOf, size}
+use Rattle.lines.specs.Rule.{Sharing, Letter, withBase, withLimit, limitSize, bases, measuredItems, onFr, settled, startLine, start, inOneTrack, singles, grownBase, baseLetters, letters, shares, sharesByFactor, raise, batched, inSpan, longer, lastBatch, missing, content, filledLines, maximiseTrack, maximise, stretchTrack, stretched, frFor, finish, sizesOf, size}
 use Rattle.lines.proofs.Fits.{length-take-singles}
-use Rattle.letters.proofs.Keeps.{length-raise}
+use Rattle.lines.proofs.Increases.{length-raise}
 use Rattle.flexible.proofs.Expanded.{length-expand}
 
 -- ---- steps 1 to 4
 
-length-batched : (c : Constraint) (batch : List Measured) (ls : List Line) → length (batched c batch ls) ≡ length ls
+length-batched : (share : Sharing) (steps : List Letter) (c : Constraint) (batch : List Measured) (ls : List Line) → length (batched share steps c batch ls) ≡ length ls
 unfolding batched
-length-batched c [] ls = refl
-length-batched c (i ∷ is) ls = in-turn-long (raise c (i ∷ is)) (λ (letter : Letter) (on : List Line). length-raise letter c (i ∷ is) on) (letters c) ls
+length-batched share steps c [] ls = refl
+length-batched share steps c (i ∷ is) ls = in-turn-long (raise share c (i ∷ is)) (λ (letter : Letter) (on : List Line). length-raise share letter c (i ∷ is) on) steps ls
 
 length-content : (c : Constraint) (ts : List Track) (is : List Measured) → length (content c ts is) ≡ length ts
 unfolding content missing lastBatch longer singles start
 length-content c ts is =
     length-map (lastBatch c ts is (longer c ts is (singles c (keep (inOneTrack ts) is) (start ts)))) (λ (l : Line). withLimit l (UpTo (limitSize l)))
-    ∙ length-batched c (keep (onFr ts) is) (longer c ts is (singles c (keep (inOneTrack ts) is) (start ts)))
-    ∙ in-turn-long (λ (n : ℕ). batched c (keep (inSpan ts n) is)) (λ (n : ℕ). length-batched c (keep (inSpan ts n) is)) (upFrom 2 (length ts - 1)) (singles c (keep (inOneTrack ts) is) (start ts))
+    ∙ length-batched sharesByFactor (baseLetters c) c (keep (onFr ts) is) (longer c ts is (singles c (keep (inOneTrack ts) is) (start ts)))
+    ∙ in-turn-long (λ (n : ℕ). batched shares (letters c) c (keep (inSpan ts n) is)) (λ (n : ℕ). length-batched shares (letters c) c (keep (inSpan ts n) is)) (upFrom 2 (length ts - 1)) (singles c (keep (inOneTrack ts) is) (start ts))
     ∙ length-map (inTurn _ (keep (inOneTrack ts) is) (start ts)) settled
     ∙ length-take-singles c 0 (keep (inOneTrack ts) is) (start ts)
     ∙ length-map ts startLine

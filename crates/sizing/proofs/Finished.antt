@@ -24,7 +24,7 @@ use Rattle.flexible.proofs.Rule.{fr-for-is}
 use Rattle.sizing.specs.Size.{mostBase, BasesFit, FreeFits, finishedLines}
 use Rattle.sizing.proofs.FreeFits.{free-fits}
 
--- with the items on an fr track as the batch
+-- with the items that cross an fr track as the batch
 pub finished-is : (e : Constraint) (asked : Bool) (ts : List Track) (is : List Measured) (ls : List Line) → finishedLines e asked (keep (onFr ts) is) ls ≡ finish e asked ts is ls
 unfolding finish
 finished-is e asked ts is ls = ap (λ (fr : Fr). stretched asked e (expand fr ls)) (sym (fr-for-is e ts is ls))

@@ -63,7 +63,7 @@ FreeFits (Definite n) ls = bases ls ≤ n + mostLacking
 FreeFits MinContent ls = Unit {0}
 FreeFits MaxContent ls = Unit {0}
 
--- steps 6 and 7 with the batch of the items on an fr track
+-- steps 6 and 7 with the batch of the items that cross an fr track
 abbrev pub finishedLines : (expansion : Constraint) (asked : Bool) → List Measured → List Line → List Line
 finishedLines e asked batch ls = stretched asked e (expand (frOver e batch ls) ls)
 

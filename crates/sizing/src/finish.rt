@@ -45,7 +45,7 @@ pub(crate) fn write_sizes(lines: &[[u32; 8]], sizes: &mut [[u32; 2]])
     }
 }
 
-// Steps 6 and 7, then the sizes; the free space comes back. `first` heads the chain of the items on an fr track.
+// Steps 6 and 7, then the sizes; the free space comes back. `first` heads the chain of the items that cross an fr track.
 pub(crate) fn finish(
     expansion: Constraint,
     asked: bool,

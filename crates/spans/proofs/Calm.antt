@@ -22,6 +22,8 @@ use Rattle.lines.specs.Rule.{line, atLeast, limitPlus, isNone, settled, grownBa
 use Rattle.letters.specs.declared.letter.Letter.{Letter}
 use Rattle.letters.specs.declared.letter.Letter.the-variants.{A, B, C, D, E, F}
 use Rattle.letters.specs.Letters.{letterOf, changesUnraised}
+use Rattle.letters.specs.declared.batch.Batch.{Batch}
+use Rattle.letters.specs.declared.batch.Batch.the-variants.{OfSpan, Last}
 use Rattle.spans.specs.Work.{above, AtRest, Calm, letterStep, letterSteps}
 use Rattle.spans.proofs.Parts.{all-zip}
 
@@ -115,27 +117,28 @@ settled-by-e = all-zip (letterOf E .grown) AtRest Settled (λ (l : Line) (p : �
 calm-by-f : (ls : List Line) (ps : List ℕ) → All Settled ls → Calm (zipWith (letterOf F .grown) ls ps)
 calm-by-f = all-zip (letterOf F .grown) Settled AtRest (λ (l : Line) (p : ℕ) (s : Settled l). (above-plus (l .base) p (l .limit) s, refl))
 
-three-unmarked : (c : Constraint) (batch : List Measured) (ls : List Line) → All Unmarked ls → All Unmarked (letterSteps 3 c batch ls)
+three-unmarked : (kind : Batch) (c : Constraint) (batch : List Measured) (ls : List Line) → All Unmarked ls → All Unmarked (letterSteps kind 3 c batch ls)
 unfolding letterSteps letterStep raise
-three-unmarked (Definite n) batch ls u = bases-unmarked _ _ (bases-unmarked _ _ u)
-three-unmarked MinContent batch ls u = bases-unmarked _ _ (bases-unmarked _ _ u)
-three-unmarked MaxContent batch ls u = bases-unmarked _ _ (bases-unmarked _ _ (bases-unmarked _ _ u))
+three-unmarked kind (Definite n) batch ls u = bases-unmarked _ _ (bases-unmarked _ _ u)
+three-unmarked kind MinContent batch ls u = bases-unmarked _ _ (bases-unmarked _ _ u)
+three-unmarked kind MaxContent batch ls u = bases-unmarked _ _ (bases-unmarked _ _ (bases-unmarked _ _ u))
 
 -- a batch that begins with calm lines has them again behind (d), and at its end
-half-calm : (c : Constraint) (batch : List Measured) (ls : List Line) → Calm ls → Calm (letterSteps 4 c batch ls)
+half-calm : (kind : Batch) (c : Constraint) (batch : List Measured) (ls : List Line) → Calm ls → Calm (letterSteps kind 4 c batch ls)
 unfolding letterSteps letterStep raise
-half-calm c batch ls r = calm-by-d _ _ (three-unmarked c batch ls (all-map AtRest Unmarked (λ (l : Line) (k : AtRest l). k .1) ls r))
+half-calm kind c batch ls r = calm-by-d _ _ (three-unmarked kind c batch ls (all-map AtRest Unmarked (λ (l : Line) (k : AtRest l). k .1) ls r))
 
-pub batch-calm : (c : Constraint) (batch : List Measured) (ls : List Line) → Calm ls → Calm (letterSteps 6 c batch ls)
+pub batch-calm : (kind : Batch) (c : Constraint) (batch : List Measured) (ls : List Line) → Calm ls → Calm (letterSteps kind 6 c batch ls)
 unfolding letterSteps letterStep raise
-batch-calm c batch ls r = calm-by-f _ _ (settled-by-e _ _ (half-calm c batch ls r))
+batch-calm OfSpan c batch ls r = calm-by-f _ _ (settled-by-e _ _ (half-calm OfSpan c batch ls r))
+batch-calm Last c batch ls r = half-calm Last c batch ls r
 
-pub still-calm : (c : Constraint) (batch : List Measured) (start ls : List Line) (k : ℕ) (moved : Bool) → Calm start → ls ≡ letterSteps k c batch start
+pub still-calm : (kind : Batch) (c : Constraint) (batch : List Measured) (start ls : List Line) (k : ℕ) (moved : Bool) → Calm start → ls ≡ letterSteps kind k c batch start
     → (moved ≡ false → Calm ls) → (moved && not (eqb k 4)) ≡ false → Calm ls
-still-calm c batch start ls k false r e calm off = calm refl
-still-calm c batch start ls k true r e calm off =
+still-calm kind c batch start ls k false r e calm off = calm refl
+still-calm kind c batch start ls k true r e calm off =
     let four : k ≡ 4 = eqb-true k 4 (not-false _ off) in
-    subst Calm (sym (e ∙ ap (λ (n : ℕ). letterSteps n c batch start) four)) (half-calm c batch start r)
+    subst Calm (sym (e ∙ ap (λ (n : ℕ). letterSteps kind n c batch start) four)) (half-calm kind c batch start r)
 
 -- ---- step 2
 

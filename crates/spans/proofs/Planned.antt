@@ -14,16 +14,18 @@ use Rattle.kinds.specs.Kinds.{Row}
 use Rattle.kinds.specs.declared.constraint.Constraint.{Constraint}
 use Rattle.lines.specs.declared.line.Line.{Line}
 use Rattle.lines.specs.declared.measured.Measured.{Measured}
-use Rattle.lines.specs.Rule.{spanned, shares, extraOf, gainsBy, increasedBy}
+use Rattle.lines.specs.Rule.{spanned, extraOf, gainsBy, increasedBy}
 use Rattle.lines.specs.Rows.{lineOf, linesOf}
 use Rattle.lines.specs.Fits.{LinesFit, MeasuredFits}
 use Rattle.lines.proofs.Slices.{slice-fits-rows, lines-of-spanned}
 use Rattle.letters.specs.declared.letter.Letter.{Letter}
 use Rattle.letters.specs.Letters.{letterOf}
+use Rattle.letters.specs.declared.batch.Batch.{Batch}
+use Rattle.letters.specs.Batches.{affectedIn, sharesIn}
 use Rattle.letters.specs.Totals.{tallied, totalIn}
 use Rattle.letters.proofs.Tallies.{length-tally, total-rises, total-between-is}
-use Rattle.letters.proofs.Nothing.{shares-none, shares-unaffected}
-use Rattle.letters.proofs.Keeps.{length-shares, extra-le}
+use Rattle.letters.proofs.Batches.{shares-in-none, shares-in-unaffected}
+use Rattle.letters.proofs.Keeps.{length-shares-in, extra-le}
 use Rattle.letters.proofs.Spanned.{larger-from-part}
 
 -- the part from a on, as code names it by its two ends
@@ -48,22 +50,23 @@ module _ (rows : List Row) (i : Measured) (letter : Letter) (c : Constraint) whe
   pub extra-few : (dots n : ℕ) → MeasuredFits n i → dots ≡ extraOf (letterOf letter) c i (linesOf (onRows rows i)) → dots ≤ mostDots
   extra-few dots n f e = let l = extra-le letter c i (linesOf (onRows rows i)) f in omega arith
 
-  shares-long : (dots : ℕ) (ys : List ℕ) → i .start + i .span ≤ length rows → ys ≡ shares (letterOf letter) dots (linesOf (onRows rows i)) → length ys ≡ i .span
-  shares-long dots ys h s = ap length s ∙ length-shares (letterOf letter) dots (linesOf (onRows rows i)) ∙ length-map (onRows rows i) lineOf ∙ length-between (i .start) (i .span) rows h
+module _ (kind : Batch) (rows : List Row) (i : Measured) (letter : Letter) (c : Constraint) where
+  shares-long : (dots : ℕ) (ys : List ℕ) → i .start + i .span ≤ length rows → ys ≡ sharesIn kind (letterOf letter) dots (linesOf (onRows rows i)) → length ys ≡ i .span
+  shares-long dots ys h s = ap length s ∙ length-shares-in kind (letterOf letter) dots (linesOf (onRows rows i)) ∙ length-map (onRows rows i) lineOf ∙ length-between (i .start) (i .span) rows h
 
   -- the scratch keeps the gains at its front
-  pub gains-long : (dots : ℕ) (ys gains : List ℕ) → i .start + i .span ≤ length rows → ys ≡ shares (letterOf letter) dots (linesOf (onRows rows i))
+  pub gains-long : (dots : ℕ) (ys gains : List ℕ) → i .start + i .span ≤ length rows → ys ≡ sharesIn kind (letterOf letter) dots (linesOf (onRows rows i))
       → length (take (i .span) (ys ++ drop (i .span) gains)) ≡ i .span
   gains-long dots ys gains h s = let long = shares-long dots ys h s in ap length (take-at ys (drop (i .span) gains) (i .span) long) ∙ long
 
   pub laid-over : (gains increases ys p : List ℕ) (dots : ℕ) → i .start + i .span ≤ length rows
-      → dots ≡ extraOf (letterOf letter) c i (linesOf (onRows rows i)) → ys ≡ shares (letterOf letter) dots (linesOf (onRows rows i))
+      → dots ≡ extraOf (letterOf letter) c i (linesOf (onRows rows i)) → ys ≡ sharesIn kind (letterOf letter) dots (linesOf (onRows rows i))
       → p ≡ larger (take (i .span) (ys ++ drop (i .span) gains)) (take (i .start + i .span - i .start) (drop (i .start) increases))
-      → take (i .start) increases ++ (p ++ drop (i .start + i .span - i .start) (drop (i .start) increases)) ≡ increasedBy (letterOf letter) c (linesOf rows) i increases
+      → take (i .start) increases ++ (p ++ drop (i .start + i .span - i .start) (drop (i .start) increases)) ≡ increasedBy (sharesIn kind) (letterOf letter) c (linesOf rows) i increases
   unfolding gainsBy
   laid-over gains increases ys p dots h e s l =
-      let g : ys ≡ gainsBy (letterOf letter) c i (spanned i (linesOf rows)) =
-      s ∙ ap (λ (d : ℕ). shares (letterOf letter) d (linesOf (onRows rows i))) e ∙ ap (λ (on : List Line). shares (letterOf letter) (extraOf (letterOf letter) c i on) on) (lines-of-spanned i rows) in
+      let g : ys ≡ gainsBy (sharesIn kind) (letterOf letter) c i (spanned i (linesOf rows)) =
+      s ∙ ap (λ (d : ℕ). sharesIn kind (letterOf letter) d (linesOf (onRows rows i))) e ∙ ap (λ (on : List Line). sharesIn kind (letterOf letter) (extraOf (letterOf letter) c i on) on) (lines-of-spanned i rows) in
       let long = shares-long dots ys h s in
       let q : p ≡ larger ys (take (i .span) (drop (i .start) increases)) =
       l ∙ ap (λ (k : ℕ). larger (take (i .span) (ys ++ drop (i .span) gains)) (take k (drop (i .start) increases))) (add-sub-cancel-left (i .start) (i .span))
@@ -105,20 +108,20 @@ larger-from-zeros zero n ps = larger-zeros n ps
 larger-from-zeros (suc k) n [] = refl
 larger-from-zeros (suc k) n (p ∷ ps) = ap (p ∷_) (larger-from-zeros k n ps)
 
-module _ (rows : List Row) (i : Measured) (letter : Letter) (c : Constraint) (increases : List ℕ) where
-  gives-nothing : shares (letterOf letter) (extraOf (letterOf letter) c i (linesOf (onRows rows i))) (linesOf (onRows rows i)) ≡ replicate (length (linesOf (onRows rows i))) 0
-      → increases ≡ increasedBy (letterOf letter) c (linesOf rows) i increases
+module _ (kind : Batch) (rows : List Row) (i : Measured) (letter : Letter) (c : Constraint) (increases : List ℕ) where
+  gives-nothing : sharesIn kind (letterOf letter) (extraOf (letterOf letter) c i (linesOf (onRows rows i))) (linesOf (onRows rows i)) ≡ replicate (length (linesOf (onRows rows i))) 0
+      → increases ≡ increasedBy (sharesIn kind) (letterOf letter) c (linesOf rows) i increases
   unfolding gainsBy
   gives-nothing n =
       sym (larger-from-zeros (i .start) (length (linesOf (onRows rows i))) increases)
       ∙ ap (λ (gs : List ℕ). largerFrom (i .start) gs increases) (sym n)
-      ∙ ap (λ (on : List Line). largerFrom (i .start) (shares (letterOf letter) (extraOf (letterOf letter) c i on) on) increases) (lines-of-spanned i rows)
+      ∙ ap (λ (on : List Line). largerFrom (i .start) (sharesIn kind (letterOf letter) (extraOf (letterOf letter) c i on) on) increases) (lines-of-spanned i rows)
 
   pub asks-nothing : (dots : ℕ) → dots ≡ extraOf (letterOf letter) c i (linesOf (onRows rows i)) → dots ≡ 0
-      → increases ≡ increasedBy (letterOf letter) c (linesOf rows) i increases
+      → increases ≡ increasedBy (sharesIn kind) (letterOf letter) c (linesOf rows) i increases
   asks-nothing dots e z =
-      gives-nothing (ap (λ (d : ℕ). shares (letterOf letter) d (linesOf (onRows rows i))) (sym e ∙ z) ∙ shares-none (letterOf letter) (linesOf (onRows rows i)))
+      gives-nothing (ap (λ (d : ℕ). sharesIn kind (letterOf letter) d (linesOf (onRows rows i))) (sym e ∙ z) ∙ shares-in-none kind (letterOf letter) (linesOf (onRows rows i)))
 
-  pub affects-nothing : {b : Bool} → b ≡ some (letterOf letter .affected) (linesOf (onRows rows i)) → b ≡ false
-      → increases ≡ increasedBy (letterOf letter) c (linesOf rows) i increases
-  affects-nothing e f = gives-nothing (shares-unaffected (letterOf letter) _ (linesOf (onRows rows i)) (sym e ∙ f))
+  pub affects-nothing : {b : Bool} → b ≡ some (affectedIn kind (letterOf letter)) (linesOf (onRows rows i)) → b ≡ false
+      → increases ≡ increasedBy (sharesIn kind) (letterOf letter) c (linesOf rows) i increases
+  affects-nothing e f = gives-nothing (shares-in-unaffected kind (letterOf letter) _ (linesOf (onRows rows i)) (sym e ∙ f))

@@ -11,44 +11,48 @@ use Rattle.kinds.specs.declared.constraint.Constraint.{Constraint}
 use Rattle.kinds.specs.declared.constraint.Constraint.the-variants.{Definite, MinContent, MaxContent}
 use Rattle.lines.specs.declared.line.Line.{Line}
 use Rattle.lines.specs.declared.measured.Measured.{Measured}
-use Rattle.lines.specs.Rule.{increasedBy, increases, raise, letters, batched}
+use Rattle.lines.specs.Rule.{increasedBy, increases, raise, batched}
 use Rattle.lines.specs.Rows.{lineOf, linesOf}
 use Rattle.lines.specs.Fits.{LinesFit, MeasuredFit}
 use Rattle.letters.specs.declared.letter.Letter.{Letter}
 use Rattle.letters.specs.Letters.{letterOf, most}
+use Rattle.letters.specs.declared.batch.Batch.{Batch}
+use Rattle.letters.specs.declared.batch.Batch.the-variants.{OfSpan, Last}
+use Rattle.letters.specs.Batches.{sharesIn, lettersIn, batchedIn}
 use Rattle.letters.specs.Totals.{tallied}
-use Rattle.letters.proofs.Keeps.{length-increases, increases-fit-rows, raise-fits}
+use Rattle.lines.proofs.Increases.{length-increases}
+use Rattle.letters.proofs.Keeps.{increases-fit-rows, raise-fits}
 use Rattle.letters.proofs.Shared.{zeros-as, zeros-of-lines}
 use native.Mathlib.Omega.{arith}
 use Rattle.lines.specs.Chains.{ChainFits, BatchesFit}
 use Rattle.spans.specs.Work.{Working, letterAt, letterRuns, letterStep, letterSteps}
 
-module _ (letter : Letter) (c : Constraint) (batch : List Measured) (rows : List Row) (start planned : List ℕ)
-    (none : start ≡ replicate (length rows) 0) (told : planned ≡ inTurn (increasedBy (letterOf letter) c (linesOf rows)) batch start) where
-  planned-is : planned ≡ increases (letterOf letter) c batch (linesOf rows)
+module _ (kind : Batch) (letter : Letter) (c : Constraint) (batch : List Measured) (rows : List Row) (start planned : List ℕ)
+    (none : start ≡ replicate (length rows) 0) (told : planned ≡ inTurn (increasedBy (sharesIn kind) (letterOf letter) c (linesOf rows)) batch start) where
+  planned-is : planned ≡ increases (sharesIn kind) (letterOf letter) c batch (linesOf rows)
   unfolding increases
   planned-is =
       told
-      ∙ ap (inTurn (increasedBy (letterOf letter) c (linesOf rows)) batch) (zeros-of-lines rows (length rows) start none refl)
+      ∙ ap (inTurn (increasedBy (sharesIn kind) (letterOf letter) c (linesOf rows)) batch) (zeros-of-lines rows (length rows) start none refl)
 
   pub length-planned : length planned ≡ length rows
-  length-planned = ap length planned-is ∙ length-increases (letterOf letter) c batch (linesOf rows) ∙ length-map rows lineOf
+  length-planned = ap length planned-is ∙ length-increases (sharesIn kind) (letterOf letter) c batch (linesOf rows) ∙ length-map rows lineOf
 
   module _ (n : ℕ) (fits : LinesFit (linesOf rows)) (items : MeasuredFit n batch) where
     -- what the letter's end asks
     pub planned-fit : (i : ℕ) → i < length rows → letterOf letter .present (lineOf (getD rows i [])) + getD planned i 0 ≤ most
-    planned-fit i h = rw planned-is (increases-fit-rows letter c n batch rows fits items i h)
+    planned-fit i h = rw planned-is (increases-fit-rows kind letter c n batch rows fits items i h)
 
     pub raised-is : (ls : List Line) → ls ≡ zipWith (letterOf letter .grown) (linesOf rows) planned
-        → (ls ≡ raise c batch (letterOf letter) (linesOf rows)) × LinesFit ls
+        → (ls ≡ raise (sharesIn kind) c batch (letterOf letter) (linesOf rows)) × LinesFit ls
     unfolding raise
     raised-is ls e =
-        let r : ls ≡ raise c batch (letterOf letter) (linesOf rows) = e ∙ ap (zipWith (letterOf letter .grown) (linesOf rows)) planned-is in
-        (r, subst LinesFit (sym r) (raise-fits letter c n batch (linesOf rows) fits items))
+        let r : ls ≡ raise (sharesIn kind) c batch (letterOf letter) (linesOf rows) = e ∙ ap (zipWith (letterOf letter .grown) (linesOf rows)) planned-is in
+        (r, subst LinesFit (sym r) (raise-fits kind letter c n batch (linesOf rows) fits items))
 
   -- where nothing was planned, lines that stay without an increase stay
   pub not-raised : planned ≡ start → zipWith (letterOf letter .grown) (linesOf rows) (replicate (length (linesOf rows)) 0) ≡ linesOf rows
-      → linesOf rows ≡ raise c batch (letterOf letter) (linesOf rows)
+      → linesOf rows ≡ raise (sharesIn kind) c batch (letterOf letter) (linesOf rows)
   unfolding raise
   not-raised same stay =
       sym stay
@@ -56,39 +60,42 @@ module _ (letter : Letter) (c : Constraint) (batch : List Measured) (rows : List
 
 -- ---- the letters by number
 
-module _ (k : ℕ) (c : Constraint) (batch : List Measured) (ls : List Line) where
+module _ (kind : Batch) (k : ℕ) (c : Constraint) (batch : List Measured) (ls : List Line) where
   -- a letter that is not run changes nothing
-  pub step-left : {b : Bool} → b ≡ letterRuns k c → b ≡ false → ls ≡ letterStep k c batch ls
+  pub step-left : {b : Bool} → b ≡ letterRuns kind k c → b ≡ false → ls ≡ letterStep kind k c batch ls
   unfolding letterStep
   step-left e f = rw (sym e ∙ f) refl
 
-  pub step-taken : {b : Bool} {letter : Letter} (out : List Line) → b ≡ letterRuns k c → b ≡ true → letter ≡ letterAt k
-      → out ≡ raise c batch (letterOf letter) ls → out ≡ letterStep k c batch ls
+  pub step-taken : {b : Bool} {letter : Letter} (out : List Line) → b ≡ letterRuns kind k c → b ≡ true → letter ≡ letterAt k
+      → out ≡ raise (sharesIn kind) c batch (letterOf letter) ls → out ≡ letterStep kind k c batch ls
   unfolding letterStep
-  step-taken out e f l r = rw (sym e ∙ f) (r ∙ ap (λ (m : Letter). raise c batch (letterOf m) ls) l)
+  step-taken out e f l r = rw (sym e ∙ f) (r ∙ ap (λ (m : Letter). raise (sharesIn kind) c batch (letterOf m) ls) l)
 
   -- one more
-  pub steps-more : (start out : List Line) → ls ≡ letterSteps k c batch start → out ≡ letterStep k c batch ls → out ≡ letterSteps (k + 1) c batch start
+  pub steps-more : (start out : List Line) → ls ≡ letterSteps kind k c batch start → out ≡ letterStep kind k c batch ls → out ≡ letterSteps kind (k + 1) c batch start
   unfolding letterSteps
-  steps-more start out e r = rw (add-one k) (r ∙ ap (letterStep k c batch) e)
+  steps-more start out e r = rw (add-one k) (r ∙ ap (letterStep kind k c batch) e)
 
 -- all six are the letters of the batch
-steps-all : (c : Constraint) (batch : List Measured) (ls : List Line) → letterSteps 6 c batch ls ≡ inTurn (raise c batch) (letters c) ls
+steps-all : (kind : Batch) (c : Constraint) (batch : List Measured) (ls : List Line) → letterSteps kind 6 c batch ls ≡ inTurn (raise (sharesIn kind) c batch) (lettersIn kind c) ls
 unfolding letterSteps letterStep inTurn
-steps-all (Definite n) batch ls = refl
-steps-all MinContent batch ls = refl
-steps-all MaxContent batch ls = refl
+steps-all OfSpan (Definite n) batch ls = refl
+steps-all OfSpan MinContent batch ls = refl
+steps-all OfSpan MaxContent batch ls = refl
+steps-all Last (Definite n) batch ls = refl
+steps-all Last MinContent batch ls = refl
+steps-all Last MaxContent batch ls = refl
 
-pub batch-of-steps : (c : Constraint) (batch : List Measured) (i : Measured) (is : List Measured) (ls out : List Line) → batch ≡ i ∷ is
-    → out ≡ letterSteps 6 c batch ls → out ≡ batched c batch ls
+pub batch-of-steps : (kind : Batch) (c : Constraint) (batch : List Measured) (i : Measured) (is : List Measured) (ls out : List Line) → batch ≡ i ∷ is
+    → out ≡ letterSteps kind 6 c batch ls → out ≡ batchedIn kind c batch ls
 unfolding batched
-batch-of-steps c batch i is ls out e r =
-    r ∙ steps-all c batch ls ∙ rw e refl
+batch-of-steps kind c batch i is ls out e r =
+    r ∙ steps-all kind c batch ls ∙ rw e refl
 
 -- no item, no change
-pub batch-of-none : (c : Constraint) (batch : List Measured) (ls : List Line) → batch ≡ [] → ls ≡ batched c batch ls
+pub batch-of-none : (kind : Batch) (c : Constraint) (batch : List Measured) (ls : List Line) → batch ≡ [] → ls ≡ batchedIn kind c batch ls
 unfolding batched
-batch-of-none c batch ls e = rw e refl
+batch-of-none kind c batch ls e = rw e refl
 
 -- ---- the working store between letters
 

@@ -1,9 +1,9 @@
 -- The working store of the steps on spans, what a letter's plan leaves in it, and one batch as the code goes about it. Assumes nothing.
 use mathlib.Core.Path.{_≡_}
 use Prim.Native.Nat.{ℕ, zero, suc, _-_, _≤_}
-use mathlib.Core.Bool.{Bool, true, false, cond}
+use mathlib.Core.Bool.{Bool, true, false, cond, _||_}
 use mathlib.Core.List.{List}
-use lib.Dec.{eqb}
+use lib.Dec.{ltb, eqb}
 use lib.ListN.{length}
 use Rattle.rounds.specs.Rule.{mostTracks}
 use Rattle.kinds.specs.Kinds.{Row}
@@ -14,13 +14,16 @@ use Rattle.lines.specs.declared.limit.Limit.{Limit}
 use Rattle.lines.specs.declared.limit.Limit.the-variants.{None, UpTo}
 use Rattle.lines.specs.declared.line.Line.{Line}
 use Rattle.lines.specs.declared.measured.Measured.{Measured}
-use Rattle.lines.specs.Rule.{increasedBy, raise, batched}
+use Rattle.lines.specs.Rule.{increasedBy, raise}
 use Rattle.lines.specs.Rows.{linesOf}
 use Rattle.lines.specs.Fits.{LinesFit}
 use Rattle.lines.specs.Chains.{batchAt}
 use Rattle.letters.specs.declared.letter.Letter.{Letter}
 use Rattle.letters.specs.declared.letter.Letter.the-variants.{A, B, C, D, E, F}
 use Rattle.letters.specs.Letters.{letterOf}
+use Rattle.letters.specs.declared.batch.Batch.{Batch}
+use Rattle.letters.specs.declared.batch.Batch.the-variants.{OfSpan, Last}
+use Rattle.letters.specs.Batches.{sharesIn, batchedIn}
 use Rattle.letters.specs.Increases.{NoIncrease}
 use Rattle.letters.specs.Totals.{tallied}
 
@@ -34,8 +37,8 @@ pub record Planning (lines : List Row) (increases gains rests : List ℕ) (sums 
   pub totals : sums ≡ tallied (linesOf lines)
 
 -- what a plan leaves: what the items of a batch give is laid over the increases, which are as before where no item gives anything
-pub record Planned (letter : Letter) (c : Constraint) (lines : List Row) (batch : List Measured) (before after : List ℕ) (given : Bool) : Type 0 where
-  pub laid : after ≡ inTurn (increasedBy (letterOf letter) c (linesOf lines)) batch before
+pub record Planned (kind : Batch) (letter : Letter) (c : Constraint) (lines : List Row) (batch : List Measured) (before after : List ℕ) (given : Bool) : Type 0 where
+  pub laid : after ≡ inTurn (increasedBy (sharesIn kind) (letterOf letter) c (linesOf lines)) batch before
   pub nothing : given ≡ false → after ≡ before
 
 -- between letters: the same, and no increase is planned
@@ -74,18 +77,23 @@ isMaxContent (Definite n) = false
 isMaxContent MinContent = false
 isMaxContent MaxContent = true
 
--- (c) is run under max-content only
-abbrev pub letterRuns : ℕ → Constraint → Bool
-letterRuns k c = cond (eqb k 2) (isMaxContent c) true
+-- (e) and (f) are run in the batches of a span alone
+abbrev pub raisesLimitsIn : Batch → Bool
+raisesLimitsIn OfSpan = true
+raisesLimitsIn Last = false
 
-unfoldable pub letterStep : ℕ → Constraint → List Measured → List Line → List Line
-letterStep k c batch ls = cond (letterRuns k c) (raise c batch (letterOf (letterAt k)) ls) ls
+-- and (c) under max-content only
+abbrev pub letterRuns : Batch → ℕ → Constraint → Bool
+letterRuns kind k c = cond (eqb k 2) (isMaxContent c) (ltb k 4 || raisesLimitsIn kind)
+
+unfoldable pub letterStep : Batch → ℕ → Constraint → List Measured → List Line → List Line
+letterStep kind k c batch ls = cond (letterRuns kind k c) (raise (sharesIn kind) c batch (letterOf (letterAt k)) ls) ls
 
 -- the first n letters, one after another
-unfoldable pub letterSteps : ℕ → Constraint → List Measured → List Line → List Line
-letterSteps zero c batch ls = ls
-letterSteps (suc n) c batch ls = letterStep n c batch (letterSteps n c batch ls)
+unfoldable pub letterSteps : Batch → ℕ → Constraint → List Measured → List Line → List Line
+letterSteps kind zero c batch ls = ls
+letterSteps kind (suc n) c batch ls = letterStep kind n c batch (letterSteps kind n c batch ls)
 
 -- batch by batch in rising span, each from its head on
 abbrev pub longerLines : Constraint → List Row → (heads nexts : List ℕ) → List Row → List Line
-longerLines c items heads nexts lines = inTurn (λ (k : ℕ). batched c (batchAt items heads nexts k)) (upFrom 2 (length lines - 1)) (linesOf lines)
+longerLines c items heads nexts lines = inTurn (λ (k : ℕ). batchedIn OfSpan c (batchAt items heads nexts k)) (upFrom 2 (length lines - 1)) (linesOf lines)

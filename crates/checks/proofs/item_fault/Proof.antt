@@ -1,8 +1,8 @@
--- `item_fault` is the first of 8 to 11 that finds an item at fault. Assumes nothing.
+-- `item_fault` is the first of 8 to 10 that finds an item at fault. Assumes nothing.
 use borrow.Author.Needs.{needs}
 use mathlib.Core.Path.{refl, sym, ap, _∙_}
 use Rattle.checks.specs.Answer.{faultOf}
-use Rattle.checks.proofs.CheckRow.{first-of, found-first, next-of-fine, first-three}
+use Rattle.checks.proofs.CheckRow.{first-of, found-first, next-of-fine, first-two}
 use Rattle.checks.proofs.item_fault.Statement.{statement}
 use Rattle.checks.proofs.item_fault.Tie as tie
 
@@ -25,21 +25,14 @@ lowest-item-requires-2 c κs = search needs
 lowest-item-requires-3 : tie.Need-lowest-item-requires-3
 lowest-item-requires-3 c κs = search needs
 
-lowest-item-requires-4 : tie.Need-lowest-item-requires-4
-lowest-item-requires-4 c κs = search needs
-
 first-requires : tie.Need-first-requires
 first-requires c κs = search needs
 
-first-requires-2 : tie.Need-first-requires-2
-first-requires-2 c κs = search needs
-
 returns-2 : tie.Need-returns-2
 returns-2 c =
-    let told = c .before .before .before .before .before in
+    let told = c .before .before .before in
     next-of-fine _ _ (ap faultOf (sym (told .enum-told .given .1)) ∙ told .before .before .lowest-item .ensures)
-    (first-of (c .first2 .ensures) (c .before .before .before .before .lowest-item2 .ensures) (first-of (c .before .first .ensures) (c .before .before .before .lowest-item3 .ensures) (c .before .before .lowest-item4 .ensures))
-    ∙ first-three _ _ _)
+    (first-of (c .first .ensures) (c .before .before .lowest-item2 .ensures) (c .before .lowest-item3 .ensures) ∙ first-two _ _)
 
 pub item-fault-spec : {M : Type 1} → statement M
 item-fault-spec =
@@ -51,7 +44,5 @@ item-fault-spec =
     enum-told
     lowest-item-requires-2
     lowest-item-requires-3
-    lowest-item-requires-4
     first-requires
-    first-requires-2
     returns-2)

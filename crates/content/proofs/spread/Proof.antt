@@ -4,8 +4,10 @@ use mathlib.Core.Path.{_≡_, ap, _∙_}
 use Prim.Native.Nat.{ℕ}
 use native.Mathlib.Omega.{arith}
 use lib.ListN.{length, getD}
-use Rattle.lines.specs.Rule.{batched, missing}
+use Rattle.lines.specs.Rule.{missing}
 use Rattle.lines.specs.Chains.{frBatch, batchAt}
+use Rattle.letters.specs.declared.batch.Batch.the-variants.{Last}
+use Rattle.letters.specs.Batches.{batchedIn}
 use Rattle.letters.proofs.Shared.{zeros-as}
 use Rattle.spans.specs.Work.{longerLines}
 use Rattle.spans.proofs.Raised.{chain-fits-as}
@@ -63,9 +65,9 @@ returns c =
     let same : length (c .before .before .before .before .before .before .before .before .before .before .before .before .before .before .before .before .before .before .before .before .before .before .before .before .before .before .before .longer .last .1 .1 .1 .1 .0) ≡ length (a .lines .now) = search needs in
     let at : last ≡ frBatch (length (a .lines .now)) = c .before .before .before .before .before .before .before .before .before .before .before .before .before .before .before .before .before .before .fr-batch .ensures ∙ ap frBatch same in
     let m = spread-made (a .constraint) (batchAt (a .items .now) (a .heads .now) (a .nexts .now) last) _ _ _ _ (one .0) (two .0) (two .1 .fit) (c .before .pass-over .ensures) in (
-      m .0 ∙ ap (λ (k : ℕ). missing (batched (a .constraint) (batchAt (a .items .now) (a .heads .now) (a .nexts .now) k) (longerLines (a .constraint) (a .items .now) (a .heads .now) (a .nexts .now) (a .lines .now)))) at,
+      m .0 ∙ ap (λ (k : ℕ). missing (batchedIn Last (a .constraint) (batchAt (a .items .now) (a .heads .now) (a .nexts .now) k) (longerLines (a .constraint) (a .items .now) (a .heads .now) (a .nexts .now) (a .lines .now)))) at,
       m .1,
-      zeros-as {m = length (c .before .before .before .before .before .before .before .before .before .before .before .batched .last .1 .1 .1 .1 .0)} {n = length (a .lines .now)} (two .1 .none) (search needs),
+      zeros-as {m = length (c .before .before .before .before .before .before .before .before .before .before .before .batched .last .1 .1 .1 .1 .1 .0)} {n = length (a .lines .now)} (two .1 .none) (search needs),
     )
 
 pub spread-spec : {M : Type 1} → statement M

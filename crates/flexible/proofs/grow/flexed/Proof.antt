@@ -2,7 +2,8 @@
 use borrow.Author.Needs.{needs}
 use Rattle.flexible.proofs.grow.flexed.Statement.{statement}
 use native.Mathlib.Omega.{arith}
-use Rattle.flexible.proofs.Products.{product-fits, share-le}
+use Rattle.lines.proofs.Products.{product-fits}
+use Rattle.flexible.proofs.Products.{share-le}
 use Rattle.flexible.proofs.Lines.{flexed-row}
 use Rattle.flexible.proofs.grow.flexed.Tie as tie
 

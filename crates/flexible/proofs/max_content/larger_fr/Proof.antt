@@ -2,7 +2,7 @@
 use borrow.Author.Needs.{needs}
 use Rattle.flexible.proofs.max_content.larger_fr.Statement.{statement}
 use borrow.Author.Tests.{lt-ltb, le-ltb}
-use Rattle.flexible.proofs.Products.{product-fits}
+use Rattle.lines.proofs.Products.{product-fits}
 use Rattle.flexible.proofs.max_content.larger_fr.Tie as tie
 
 cast-left : tie.Need-cast-left

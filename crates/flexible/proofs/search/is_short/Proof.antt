@@ -1,7 +1,7 @@
 -- `is_short` compares crosswise, in 64 bits. Assumes nothing.
 use borrow.Author.Needs.{needs}
 use Rattle.flexible.proofs.search.is_short.Statement.{statement}
-use Rattle.flexible.proofs.Products.{product-fits}
+use Rattle.lines.proofs.Products.{product-fits}
 use Rattle.flexible.proofs.Walks.{short-open}
 use Rattle.flexible.proofs.search.is_short.Tie as tie
 

@@ -18,7 +18,7 @@ returns c =
     let a = s .args in
     let long = s .pre .1 .long in
     let k : length (a .nexts .now) ≤ a .first = search needs in
-    (batch-of-none (a .constraint) (chained (a .items .now) (a .nexts .now) (a .first)) (linesOf (a .lines .now)) (chained-end (a .items .now) (a .nexts .now) (a .first) k), s .pre .0, s .pre .3)
+    (batch-of-none (a .batch) (a .constraint) (chained (a .items .now) (a .nexts .now) (a .first)) (linesOf (a .lines .now)) (chained-end (a .items .now) (a .nexts .now) (a .first) k), s .pre .0, s .pre .3)
 
 raise-all-requires : tie.Need-raise-all-requires
 raise-all-requires c κs =
@@ -47,9 +47,9 @@ returns-2 c =
     let e = c .before .before .before .before .before .before .before .before .raise-all .ensures in
     let k : a .first < length (a .items .now) = search needs in
     let q = s .pre .2 k in (
-      batch-of-steps (a .constraint) (chained (a .items .now) (a .nexts .now) (a .first)) (q .0) (q .1) (linesOf (a .lines .now)) _ (q .2) (e .0),
+      batch-of-steps (a .batch) (a .constraint) (chained (a .items .now) (a .nexts .now) (a .first)) (q .0) (q .1) (linesOf (a .lines .now)) _ (q .2) (e .0),
       e .1,
-      subst Calm (sym (e .0)) (batch-calm (a .constraint) (chained (a .items .now) (a .nexts .now) (a .first)) (linesOf (a .lines .now)) (s .pre .3)),
+      subst Calm (sym (e .0)) (batch-calm (a .batch) (a .constraint) (chained (a .items .now) (a .nexts .now) (a .first)) (linesOf (a .lines .now)) (s .pre .3)),
     )
 
 pub batched-spec : {M : Type 1} → statement M

@@ -6,9 +6,10 @@ use Prim.Native.Nat.{ℕ, suc, _+_, _-_, _≤_, _<_}
 use native.Mathlib.Omega.{arith}
 use lib.ListN.{length, getD, length-replicate}
 use Rattle.laws.specs.Lists.{inTurn, upFrom}
-use Rattle.lines.specs.Rule.{batched}
 use Rattle.lines.specs.Rows.{linesOf}
 use Rattle.lines.specs.Chains.{chained, batches}
+use Rattle.letters.specs.declared.batch.Batch.the-variants.{OfSpan}
+use Rattle.letters.specs.Batches.{batchedIn}
 use Rattle.spans.specs.Work.{Working, Calm}
 use Rattle.spans.proofs.Parts.{up-turn, up-end}
 use Rattle.spans.proofs.Planned.{sums-long}
@@ -20,8 +21,8 @@ Inv-loop constraint heads nexts items lines₀ increases₀ gains₀ rests₀ su
     Working lines increases gains rests sums
     × (length lines ≡ length lines₀)
     × (2 ≤ k)
-    × (inTurn (λ (j : ℕ). batched constraint (chained items nexts (getD heads j 0))) (upFrom k (length lines₀ + 1 - k)) (linesOf lines)
-    ≡ inTurn (λ (j : ℕ). batched constraint (chained items nexts (getD heads j 0))) (upFrom 2 (length lines₀ - 1)) (linesOf lines₀))
+    × (inTurn (λ (j : ℕ). batchedIn OfSpan constraint (chained items nexts (getD heads j 0))) (upFrom k (length lines₀ + 1 - k)) (linesOf lines)
+    ≡ inTurn (λ (j : ℕ). batchedIn OfSpan constraint (chained items nexts (getD heads j 0))) (upFrom 2 (length lines₀ - 1)) (linesOf lines₀))
     × Calm (linesOf lines)
 
 abbrev μ-loop : tie.MeasureT-loop
@@ -32,7 +33,7 @@ loop-holds c =
     let s = c .before .before .before .before .before in
     let a = s .args in
     let n : length (a .lines .now) + 1 - 2 ≡ length (a .lines .now) - 1 = omega arith in
-    (s .pre .0, refl, search needs, ap (λ (m : ℕ). inTurn (λ (j : ℕ). batched (a .constraint) (chained (a .items .now) (a .nexts .now) (getD (a .heads .now) j 0))) (upFrom 2 m) (linesOf (a .lines .now))) n, s .pre .2)
+    (s .pre .0, refl, search needs, ap (λ (m : ℕ). inTurn (λ (j : ℕ). batchedIn OfSpan (a .constraint) (chained (a .items .now) (a .nexts .now) (getD (a .heads .now) j 0))) (upFrom 2 m) (linesOf (a .lines .now))) n, s .pre .2)
 
 mul-batched : tie.Need-mul-batched Inv-loop μ-loop
 mul-batched c = search needs
@@ -75,7 +76,7 @@ loop-again c =
       e .1,
       search needs,
       search needs,
-      up-turn (λ (j : ℕ). batched (a .constraint) (chained (a .items .now) (a .nexts .now) (getD (a .heads .now) j 0))) (h .k) (length (a .lines .now) + 1 - h .k) (length (a .lines .now) + 1 - (h .k + 1)) (linesOf (h .lines)) _ _ n (h .inv .3) (e .0),
+      up-turn (λ (j : ℕ). batchedIn OfSpan (a .constraint) (chained (a .items .now) (a .nexts .now) (getD (a .heads .now) j 0))) (h .k) (length (a .lines .now) + 1 - h .k) (length (a .lines .now) + 1 - (h .k + 1)) (linesOf (h .lines)) _ _ n (h .inv .3) (e .0),
       e .2,
     )
 
@@ -106,7 +107,7 @@ returns c =
     let a = s .args in
     let h = c .before .loop in
     let out : length (a .lines .now) < h .k = search needs in (
-      up-end (λ (j : ℕ). batched (a .constraint) (chained (a .items .now) (a .nexts .now) (getD (a .heads .now) j 0))) (h .k) (length (a .lines .now) + 1 - h .k) (linesOf (h .lines)) _ (omega arith) (h .inv .3),
+      up-end (λ (j : ℕ). batchedIn OfSpan (a .constraint) (chained (a .items .now) (a .nexts .now) (getD (a .heads .now) j 0))) (h .k) (length (a .lines .now) + 1 - h .k) (linesOf (h .lines)) _ (omega arith) (h .inv .3),
       h .inv .0,
       h .inv .4,
     )

@@ -12,20 +12,21 @@ use Rattle.lines.specs.Fits.{MeasuredFits, MeasuredFit}
 use Rattle.lines.specs.Chains.{chained}
 use Rattle.lines.proofs.Chains.{walk-turn, walk-end, all-part, all-rest}
 use Rattle.letters.specs.Letters.{letterOf}
+use Rattle.letters.specs.Batches.{sharesIn}
 use Rattle.letters.proofs.Nothing.{or-neither}
 use Rattle.spans.proofs.batch.plan_batch.Tie as tie
 
 abbrev Inv-loop : tie.InvT-loop
-Inv-loop letter constraint first nexts items lines increases₀ gains₀ rests₀ sums planned₀ i₀ increases gains rests planned i =
+Inv-loop batch letter constraint first nexts items lines increases₀ gains₀ rests₀ sums planned₀ i₀ increases gains rests planned i =
     (length increases ≡ length lines)
     × (length gains ≡ length lines)
     × (length rests ≡ length lines)
     × MeasuredFit (length lines) (chained items nexts i)
-    × (inTurn (increasedBy (letterOf letter) constraint (linesOf lines)) (chained items nexts i) increases ≡ inTurn (increasedBy (letterOf letter) constraint (linesOf lines)) (chained items nexts first) increases₀)
+    × (inTurn (increasedBy (sharesIn batch) (letterOf letter) constraint (linesOf lines)) (chained items nexts i) increases ≡ inTurn (increasedBy (sharesIn batch) (letterOf letter) constraint (linesOf lines)) (chained items nexts first) increases₀)
     × (planned ≡ false → increases ≡ increases₀)
 
 abbrev μ-loop : tie.MeasureT-loop
-μ-loop letter constraint first nexts items lines increases₀ gains₀ rests₀ sums planned₀ i₀ increases gains rests planned i = length items - i
+μ-loop batch letter constraint first nexts items lines increases₀ gains₀ rests₀ sums planned₀ i₀ increases gains rests planned i = length items - i
 
 loop-holds : tie.Need-loop-holds Inv-loop μ-loop
 loop-holds c =
@@ -80,7 +81,7 @@ loop-again c =
       search needs,
       search needs,
       all-rest (s .args .items .now) (s .args .nexts .now) (h .i) (f .rising) k (MeasuredFits (length (s .args .lines .now))) (h .inv .3),
-      walk-turn (s .args .items .now) (s .args .nexts .now) (h .i) (f .rising) k (increasedBy (letterOf (s .args .letter)) (s .args .constraint) (linesOf (s .args .lines .now))) (h .increases) _ _ (h .inv .4) (c .before .before .before .before .before .before .before .plan-part .ensures .laid),
+      walk-turn (s .args .items .now) (s .args .nexts .now) (h .i) (f .rising) k (increasedBy (sharesIn (s .args .batch)) (letterOf (s .args .letter)) (s .args .constraint) (linesOf (s .args .lines .now))) (h .increases) _ _ (h .inv .4) (c .before .before .before .before .before .before .before .plan-part .ensures .laid),
       λ e. let n = or-neither _ _ e in c .before .before .before .before .before .before .before .plan-part .ensures .nothing (n .1) ∙ h .inv .5 (n .0),
     )
 
@@ -99,7 +100,7 @@ returns c =
     let h = c .before .loop in
     let long = s .pre .1 .long in
     record {
-      laid = walk-end (s .args .items .now) (s .args .nexts .now) (h .i) (increasedBy (letterOf (s .args .letter)) (s .args .constraint) (linesOf (s .args .lines .now))) (h .increases) _ (search needs) (h .inv .4);
+      laid = walk-end (s .args .items .now) (s .args .nexts .now) (h .i) (increasedBy (sharesIn (s .args .batch)) (letterOf (s .args .letter)) (s .args .constraint) (linesOf (s .args .lines .now))) (h .increases) _ (search needs) (h .inv .4);
       nothing = h .inv .5;
     }
 

@@ -69,7 +69,7 @@ returns : tie.Need-returns
 unfolding inTurn
 returns c =
     let a = c .before .before .before .before .before .before .before .before .before .before .before in
-    record { laid = asks-nothing (a .args .lines .now) (a .args .item) (a .args .letter) (a .args .constraint) (a .args .increases .now) _ (c .before .extra .ensures) (search needs); nothing = λ _. refl }
+    record { laid = asks-nothing (a .args .batch) (a .args .lines .now) (a .args .item) (a .args .letter) (a .args .constraint) (a .args .increases .now) _ (c .before .extra .ensures) (search needs); nothing = λ _. refl }
 
 affects-some-requires : tie.Need-affects-some-requires
 affects-some-requires c κs = search needs
@@ -78,26 +78,26 @@ returns-2 : tie.Need-returns-2
 unfolding inTurn
 returns-2 c =
     let a = c .before .before .before .before .before .before .before .before .before .before .before .before .before in
-    record { laid = affects-nothing (a .args .lines .now) (a .args .item) (a .args .letter) (a .args .constraint) (a .args .increases .now) (c .before .affects-some .ensures) (not-true _ (c .if2 .taken)); nothing = λ _. refl }
+    record { laid = affects-nothing (a .args .batch) (a .args .lines .now) (a .args .item) (a .args .letter) (a .args .constraint) (a .args .increases .now) (c .before .affects-some .ensures) (not-true _ (c .if2 .taken)); nothing = λ _. refl }
 
-slice-relend-prefix-share-extra : tie.Need-slice-relend-prefix-share-extra
-slice-relend-prefix-share-extra c = search needs
+slice-relend-prefix-share-in : tie.Need-slice-relend-prefix-share-in
+slice-relend-prefix-share-in c = search needs
 
-slice-aggregate-share-extra : tie.Need-slice-aggregate-share-extra
-slice-aggregate-share-extra c =
+slice-aggregate-share-in : tie.Need-slice-aggregate-share-in
+slice-aggregate-share-in c =
     let a = c .before .before .before .before .before .before .before .before .before .before .before .before .before .before in
     sym (length-take-le (a .args .item .span) (a .args .gains .now) (omega (arith, a .pre .1 .within, a .pre .0 .gains-long)))
 
-slice-relend-prefix-share-extra-2 : tie.Need-slice-relend-prefix-share-extra-2
-slice-relend-prefix-share-extra-2 c = search needs
+slice-relend-prefix-share-in-2 : tie.Need-slice-relend-prefix-share-in-2
+slice-relend-prefix-share-in-2 c = search needs
 
-slice-aggregate-share-extra-2 : tie.Need-slice-aggregate-share-extra-2
-slice-aggregate-share-extra-2 c =
+slice-aggregate-share-in-2 : tie.Need-slice-aggregate-share-in-2
+slice-aggregate-share-in-2 c =
     let a = c .before .before .before .before .before .before .before .before .before .before .before .before .before .before .before in
     sym (length-take-le (a .args .item .span) (a .args .rests .now) (omega (arith, a .pre .1 .within, a .pre .0 .rests-long)))
 
-share-extra-requires : tie.Need-share-extra-requires
-share-extra-requires c κs =
+share-in-requires : tie.Need-share-in-requires
+share-in-requires c κs =
     let a = c .before .before .before .before .before .before .before .before .before .before .before .before .before .before .before in
     let i = a .args .item in
     let on = length-between (i .start) (i .span) (a .args .lines .now) (a .pre .1 .within) in (
@@ -116,7 +116,7 @@ slice-reshare-prefix-lay-over c = search needs
 slice-aggregate-lay-over : tie.Need-slice-aggregate-lay-over
 slice-aggregate-lay-over c =
     let a = c .before .before .before .before .before .before .before .before .before .before .before .before .before .before .before .before .before .before .before .before .before in
-    sym (gains-long (a .args .lines .now) (a .args .item) (a .args .letter) (a .args .constraint) _ _ (a .args .gains .now) (a .pre .1 .within) (c .before .before .before .before .before .share-extra .ensures))
+    sym (gains-long (a .args .batch) (a .args .lines .now) (a .args .item) (a .args .letter) (a .args .constraint) _ _ (a .args .gains .now) (a .pre .1 .within) (c .before .before .before .before .before .share-in .ensures))
 
 mul-lay-over : tie.Need-mul-lay-over
 mul-lay-over c = search needs
@@ -134,7 +134,7 @@ lay-over-requires : tie.Need-lay-over-requires
 lay-over-requires c κs =
     let a = c .before .before .before .before .before .before .before .before .before .before .before .before .before .before .before .before .before .before .before .before .before .before in
     let i = a .args .item in
-    gains-long (a .args .lines .now) i (a .args .letter) (a .args .constraint) _ _ (a .args .gains .now) (a .pre .1 .within) (c .before .before .before .before .before .before .share-extra .ensures)
+    gains-long (a .args .batch) (a .args .lines .now) i (a .args .letter) (a .args .constraint) _ _ (a .args .gains .now) (a .pre .1 .within) (c .before .before .before .before .before .before .share-in .ensures)
     ∙ sym (length-between (i .start) (i .span) (a .args .increases .now) (omega (arith, a .pre .1 .within, a .pre .0 .increases-long)))
 
 same-length : tie.Need-same-length
@@ -151,8 +151,8 @@ unfolding inTurn
 returns-3 c =
     let a = c .before .before .before .before .before .before .before .before .before .before .before .before .before .before .before .before .before .before .before .before .before .before .before .before .before in
     let i = a .args .item in record {
-      laid = laid-over (a .args .lines .now) i (a .args .letter) (a .args .constraint) (a .args .gains .now) (a .args .increases .now) _ _ _ (a .pre .1 .within)
-          (c .before .before .before .before .before .before .before .before .before .before .before .before .before .before .before .extra .ensures) (c .before .before .before .before .before .before .before .before .before .share-extra .ensures) (c .before .before .lay-over .ensures);
+      laid = laid-over (a .args .batch) (a .args .lines .now) i (a .args .letter) (a .args .constraint) (a .args .gains .now) (a .args .increases .now) _ _ _ (a .pre .1 .within)
+          (c .before .before .before .before .before .before .before .before .before .before .before .before .before .before .before .extra .ensures) (c .before .before .before .before .before .before .before .before .before .share-in .ensures) (c .before .before .lay-over .ensures);
       nothing = λ e. absurd (true≢false e);
     }
 
@@ -176,11 +176,11 @@ plan-item-spec =
     returns
     affects-some-requires
     returns-2
-    slice-relend-prefix-share-extra
-    slice-aggregate-share-extra
-    slice-relend-prefix-share-extra-2
-    slice-aggregate-share-extra-2
-    share-extra-requires
+    slice-relend-prefix-share-in
+    slice-aggregate-share-in
+    slice-relend-prefix-share-in-2
+    slice-aggregate-share-in-2
+    share-in-requires
     slice-reshare-prefix-lay-over
     slice-aggregate-lay-over
     mul-lay-over

@@ -8,6 +8,7 @@ use Rattle.lines.specs.Rule.{increasedBy}
 use Rattle.lines.specs.Rows.{linesOf}
 use Rattle.lines.proofs.Parted.{part-left, part-taken, part-fits}
 use Rattle.letters.specs.Letters.{letterOf}
+use Rattle.letters.specs.Batches.{sharesIn}
 use Rattle.spans.proofs.batch.plan_part.Tie as tie
 
 of-row-requires : tie.Need-of-row-requires
@@ -19,7 +20,7 @@ lacks-contribution-requires c κs = search needs
 returns : tie.Need-returns
 returns c =
     let s = c .before .before .before .before .before .before in
-    let plan = increasedBy (letterOf (s .args .letter)) (s .args .constraint) (linesOf (s .args .lines .now)) in
+    let plan = increasedBy (sharesIn (s .args .batch)) (letterOf (s .args .letter)) (s .args .constraint) (linesOf (s .args .lines .now)) in
     record {
       laid = part-left _ (s .args .row) (c .before .before .of-row .ensures) plan (s .args .increases .now) (sym (c .before .lacks-contribution .ensures) ∙ c .if1 .taken);
       nothing = λ _. refl;
@@ -48,7 +49,7 @@ unfolding inTurn
 returns-2 c =
     let s = c .before .before .before .before .before .before .before .before .before .before .before .before .before .before .before .before .before in
     let e = c .before .before .before .before .before .before .plan-item .ensures in
-    let plan = increasedBy (letterOf (s .args .letter)) (s .args .constraint) (linesOf (s .args .lines .now)) in
+    let plan = increasedBy (sharesIn (s .args .batch)) (letterOf (s .args .letter)) (s .args .constraint) (linesOf (s .args .lines .now)) in
     let whole = sym (c .before .before .before .before .before .before .before .before .before .before .before .before .lacks-contribution .ensures) ∙ c .before .before .before .before .before .before .before .before .before .before .before .if1 .left in
     record {
       laid = part-taken _ (s .args .row) (c .before .before .before .before .before .before .before .before .before .before .before .before .before .of-row .ensures) plan (s .args .increases .now) whole _ (c .before .before .before .before .before .before .before .before .before .before .of .ensures) _ (e .laid);

@@ -44,7 +44,7 @@ returns c =
     let planned = c .before .before .before .before .before .before .before .before .plan-batch .ensures in
     let off = or-neither _ _ (not-true _ (c .if1 .taken)) in
     let stay = lines-stay (a .letter) (a .moved) (linesOf (a .lines .now)) (ap (λ (b : Bool). a .moved && b) (sym (c .before .changes-unraised .ensures)) ∙ off .1) (s .pre .2) in (
-      not-raised (a .letter) (a .constraint) _ (a .lines .now) (a .increases .now) _ (w .none) (planned .laid) (planned .nothing (off .0)) stay,
+      not-raised (a .batch) (a .letter) (a .constraint) _ (a .lines .now) (a .increases .now) _ (w .none) (planned .laid) (planned .nothing (off .0)) stay,
       record { few = w .few; fit = w .fit; none = planned .nothing (off .0) ∙ w .none; gains-long = search needs; rests-long = search needs; totals = w .totals },
       s .pre .2,
     )
@@ -55,8 +55,8 @@ apply-requires c κs =
     let w = s .pre .0 in
     let a = s .args in
     let planned = c .before .before .before .before .before .before .before .before .before .before .plan-batch .ensures in record {
-      long = length-planned (a .letter) (a .constraint) _ (a .lines .now) (a .increases .now) _ (w .none) (planned .laid);
-      fits = planned-fit (a .letter) (a .constraint) _ (a .lines .now) (a .increases .now) _ (w .none) (planned .laid) _ (w .fit) (s .pre .1 .fit);
+      long = length-planned (a .batch) (a .letter) (a .constraint) _ (a .lines .now) (a .increases .now) _ (w .none) (planned .laid);
+      fits = planned-fit (a .batch) (a .letter) (a .constraint) _ (a .lines .now) (a .increases .now) _ (w .none) (planned .laid) _ (w .fit) (s .pre .1 .fit);
     }
 
 tally-requires : tie.Need-tally-requires
@@ -89,7 +89,7 @@ returns-2 c =
     let a = s .args in
     let planned = c .before .before .before .before .before .before .before .before .before .before .before .before .before .before .before .before .before .before .plan-batch .ensures in
     let applied = c .before .before .before .before .before .before .before .apply .ensures in
-    let r = raised-is (a .letter) (a .constraint) _ (a .lines .now) (a .increases .now) _ (w .none) (planned .laid) _ (w .fit) (s .pre .1 .fit) _ (applied .0) in
+    let r = raised-is (a .batch) (a .letter) (a .constraint) _ (a .lines .now) (a .increases .now) _ (w .none) (planned .laid) _ (w .fit) (s .pre .1 .fit) _ (applied .0) in
     (r .0, working-after w (search needs) (search needs) (search needs) (r .1) (applied .1) (c .before .tally .ensures), λ e. absurd (true≢false e))
 
 pub raise-spec : {M : Type 1} → statement M

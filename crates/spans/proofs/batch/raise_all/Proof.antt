@@ -14,15 +14,15 @@ use Rattle.spans.proofs.Raised.{steps-more, chain-fits-as}
 use Rattle.spans.proofs.batch.raise_all.Tie as tie
 
 abbrev Inv-loop : tie.InvT-loop
-Inv-loop constraint first nexts items lines₀ increases₀ gains₀ rests₀ sums₀ moved₀ k₀ lines increases gains rests sums moved k =
+Inv-loop batch constraint first nexts items lines₀ increases₀ gains₀ rests₀ sums₀ moved₀ k₀ lines increases gains rests sums moved k =
     Working lines increases gains rests sums
     × (length lines ≡ length lines₀)
     × (k ≤ 6)
-    × (linesOf lines ≡ letterSteps k constraint (chained items nexts first) (linesOf lines₀))
+    × (linesOf lines ≡ letterSteps batch k constraint (chained items nexts first) (linesOf lines₀))
     × (moved ≡ false → Calm (linesOf lines))
 
 abbrev μ-loop : tie.MeasureT-loop
-μ-loop constraint first nexts items lines₀ increases₀ gains₀ rests₀ sums₀ moved₀ k₀ lines increases gains rests sums moved k = 6 - k
+μ-loop batch constraint first nexts items lines₀ increases₀ gains₀ rests₀ sums₀ moved₀ k₀ lines increases gains rests sums moved k = 6 - k
 
 loop-holds : tie.Need-loop-holds Inv-loop μ-loop
 unfolding letterSteps
@@ -35,7 +35,7 @@ raise-at-requires c κs =
     let s = c .before .before .before .before .before .before .before .before .before .before .before in
     let a = s .args in
     let h = c .before .before .before .before .before .before .loop in
-    (h .inv .0, chain-fits-as (s .args .items .now) (s .args .nexts .now) (s .args .first) (h .inv .1) (s .pre .1), still-calm (a .constraint) (chained (a .items .now) (a .nexts .now) (a .first)) (linesOf (a .lines .now)) (linesOf (h .lines)) (h .k) (h .moved) (s .pre .2) (h .inv .3) (h .inv .4))
+    (h .inv .0, chain-fits-as (s .args .items .now) (s .args .nexts .now) (s .args .first) (h .inv .1) (s .pre .1), still-calm (a .batch) (a .constraint) (chained (a .items .now) (a .nexts .now) (a .first)) (linesOf (a .lines .now)) (linesOf (h .lines)) (h .k) (h .moved) (s .pre .2) (h .inv .3) (h .inv .4))
 
 add-k : tie.Need-add-k Inv-loop μ-loop
 add-k c = search needs
@@ -52,7 +52,7 @@ loop-again c =
       e .1,
       search needs,
       search needs,
-      steps-more (h .k) (a .constraint) (chained (a .items .now) (a .nexts .now) (a .first)) (linesOf (h .lines)) (linesOf (a .lines .now)) _ (h .inv .3) (e .0),
+      steps-more (a .batch) (h .k) (a .constraint) (chained (a .items .now) (a .nexts .now) (a .first)) (linesOf (h .lines)) (linesOf (a .lines .now)) _ (h .inv .3) (e .0),
       e .2,
     )
 
@@ -83,7 +83,7 @@ returns c =
     let a = s .args in
     let h = c .before .loop in
     let six : h .k ≡ 6 = search needs in
-    (h .inv .3 ∙ ap (λ n. letterSteps n (a .constraint) (chained (a .items .now) (a .nexts .now) (a .first)) (linesOf (a .lines .now))) six, h .inv .0)
+    (h .inv .3 ∙ ap (λ n. letterSteps (a .batch) n (a .constraint) (chained (a .items .now) (a .nexts .now) (a .first)) (linesOf (a .lines .now))) six, h .inv .0)
 
 pub raise-all-spec : {M : Type 1} → statement M
 raise-all-spec =

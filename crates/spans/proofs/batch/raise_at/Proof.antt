@@ -14,7 +14,7 @@ returns : tie.Need-returns
 returns c =
     let s = c .before .before .before .before .before .before in
     let a = s .args in
-    (step-left (a .k) (a .constraint) (chained (a .items .now) (a .nexts .now) (a .first)) (linesOf (a .lines .now)) (c .before .letter-runs .ensures) (not-true _ (c .if1 .taken)), s .pre .0, s .pre .2)
+    (step-left (a .batch) (a .k) (a .constraint) (chained (a .items .now) (a .nexts .now) (a .first)) (linesOf (a .lines .now)) (c .before .letter-runs .ensures) (not-true _ (c .if1 .taken)), s .pre .0, s .pre .2)
 
 letter-at-requires : tie.Need-letter-at-requires
 letter-at-requires c κs = search needs
@@ -42,7 +42,7 @@ returns-2 c =
     let s = c .before .before .before .before .before .before .before .before .before .before .before .before .before .before .before .before .before .before .before .before .before in
     let a = s .args in
     let e = c .before .before .before .before .before .before .before .before .raise .ensures in
-    (step-taken (a .k) (a .constraint) (chained (a .items .now) (a .nexts .now) (a .first)) (linesOf (a .lines .now)) _ (c .before .before .before .before .before .before .before .before .before .before .before .before .before .before .before .before .letter-runs .ensures) (not-false _ (c .before .before .before .before .before .before .before .before .before .before .before .before .before .before .before .if1 .left)) (c .before .before .before .before .before .before .before .before .before .before .before .before .before .before .letter-at .ensures) (e .0), e .1, e .2)
+    (step-taken (a .batch) (a .k) (a .constraint) (chained (a .items .now) (a .nexts .now) (a .first)) (linesOf (a .lines .now)) _ (c .before .before .before .before .before .before .before .before .before .before .before .before .before .before .before .before .letter-runs .ensures) (not-false _ (c .before .before .before .before .before .before .before .before .before .before .before .before .before .before .before .if1 .left)) (c .before .before .before .before .before .before .before .before .before .before .before .before .before .before .letter-at .ensures) (e .0), e .1, e .2)
 
 pub raise-at-spec : {M : Type 1} → statement M
 raise-at-spec =

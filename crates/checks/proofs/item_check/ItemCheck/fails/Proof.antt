@@ -1,12 +1,11 @@
 -- `fails` makes the test of each check, its cheap half first. Assumes nothing.
 use borrow.Author.Needs.{needs}
-use borrow.Author.Tests.{le-leb, lt-leb}
 use mathlib.Core.Path.{sym, _∙_}
 use mathlib.Core.List.{map}
 use lib.ListN.{length-map}
 use Rattle.kinds.specs.Kinds.{trackOf}
 use Rattle.checks.specs.Rule.{isMeasured}
-use Rattle.checks.proofs.Both.{both-by-first, none-by-first, both-by-second, none-by-second}
+use Rattle.checks.proofs.Both.{both-by-second, none-by-second}
 use Rattle.checks.proofs.item_check.ItemCheck.fails.Statement.{statement}
 use Rattle.checks.proofs.item_check.ItemCheck.fails.Tie as tie
 
@@ -46,29 +45,17 @@ is-measured-requires-2 c κs = search needs
 returns-2 : tie.Need-returns-2
 returns-2 c = rw (c .before .before .before .enum-told4 .given .1) (both-by-second _ _ (sym (c .before .before .falls .ensures) ∙ c .before .if2 .taken) (c .is-measured2 .ensures))
 
-enum-told-5 : tie.Need-enum-told-5
-enum-told-5 c = search needs
-
-crosses-fr-requires : tie.Need-crosses-fr-requires
-crosses-fr-requires c κs = search needs
-
 returns-3 : tie.Need-returns-3
-returns-3 c = rw (c .before .before .before .enum-told5 .given .1) (both-by-first _ _ (le-leb _ _ (c .before .if3 .taken)) (c .crosses-fr .ensures))
+returns-3 c = rw (c .before .enum-told .given .1) (c .item-over .ensures)
 
 returns-4 : tie.Need-returns-4
-returns-4 c = rw (c .before .enum-told .given .1) (c .item-over .ensures)
+returns-4 c = rw (c .before .enum-told2 .given .1) (rw length-map (c .is-outside .ensures))
 
 returns-5 : tie.Need-returns-5
-returns-5 c = rw (c .before .enum-told2 .given .1) (rw length-map (c .is-outside .ensures))
+returns-5 c = rw (c .before .before .enum-told3 .given .1) (none-by-second (isMeasured (map trackOf (c .before .before .before .before .args .tracks .now)) (c .before .before .before .before .args .item)) _ (sym (c .before .lacks-contribution .ensures) ∙ c .if1 .left))
 
 returns-6 : tie.Need-returns-6
-returns-6 c = rw (c .before .before .enum-told3 .given .1) (none-by-second (isMeasured (map trackOf (c .before .before .before .before .args .tracks .now)) (c .before .before .before .before .args .item)) _ (sym (c .before .lacks-contribution .ensures) ∙ c .if1 .left))
-
-returns-7 : tie.Need-returns-7
-returns-7 c = rw (c .before .before .enum-told4 .given .1) (none-by-second (isMeasured (map trackOf (c .before .before .before .before .args .tracks .now)) (c .before .before .before .before .args .item)) _ (sym (c .before .falls .ensures) ∙ c .if2 .left))
-
-returns-8 : tie.Need-returns-8
-returns-8 c = rw (c .before .before .enum-told5 .given .1) (none-by-first _ _ (lt-leb _ _ (c .if3 .left)))
+returns-6 c = rw (c .before .before .enum-told4 .given .1) (none-by-second (isMeasured (map trackOf (c .before .before .before .before .args .tracks .now)) (c .before .before .before .before .args .item)) _ (sym (c .before .falls .ensures) ∙ c .if2 .left))
 
 pub fails-spec : {M : Type 1} → statement M
 fails-spec =
@@ -86,11 +73,7 @@ fails-spec =
     falls-requires
     is-measured-requires-2
     returns-2
-    enum-told-5
-    crosses-fr-requires
     returns-3
     returns-4
     returns-5
-    returns-6
-    returns-7
-    returns-8)
+    returns-6)

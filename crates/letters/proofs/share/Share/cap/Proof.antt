@@ -27,6 +27,15 @@ is-auto-requires c κs = search needs
 cap-of-requires-2 : tie.Need-cap-of-requires-2
 cap-of-requires-2 c κs = search needs
 
+enum-known-self : tie.Need-enum-known-self
+enum-known-self c = search needs
+
+affects-fr-requires : tie.Need-affects-fr-requires
+affects-fr-requires c κs = search needs
+
+cap-of-requires-3 : tie.Need-cap-of-requires-3
+cap-of-requires-3 c κs = search needs
+
 returns : tie.Need-returns
 returns c =
     let a = c .before .before .before .before .args in
@@ -41,6 +50,13 @@ returns-2 c =
     ∙ ap (λ (affected : Bool). cond affected (a .dots) 0) (c .before .is-auto .ensures)
     ∙ ap (λ (s : Share). capOf (a .dots) (trackIn s (a .line))) (sym (c .before .before .enum-told2 .given .1))
 
+returns-3 : tie.Need-returns-3
+returns-3 c =
+    let a = c .before .before .before .before .before .args in
+    c .cap-of3 .ensures
+    ∙ ap (λ (affected : Bool). cond affected (a .dots) 0) (c .before .affects-fr .ensures)
+    ∙ ap (λ (s : Share). capOf (a .dots) (trackIn s (a .line))) (sym (c .before .before .before .self .given .1))
+
 pub cap-spec : {M : Type 1} → statement M
 cap-spec =
     tie.close
@@ -51,5 +67,9 @@ cap-spec =
     enum-told-2
     is-auto-requires
     cap-of-requires-2
+    enum-known-self
+    affects-fr-requires
+    cap-of-requires-3
     returns
-    returns-2)
+    returns-2
+    returns-3)

@@ -10,6 +10,7 @@ from board import AUTO, FIT, FIXED, FR, MAX, MIN, with_gutters_listed
 
 DIFFERENT = {
     'odd dots': 'a share is a fraction, and there are no odd dots',
+    'odd dots by factor': 'a share by factor is a fraction, and no dots are over',
     'fr rounded down': 'an fr track keeps its fraction',
     'limit of none': 'a limit of none becomes base plus increase for every track that an item affects, also where the increase is 0',
     'fit-content room of bases': 'the room of a fit-content base that has no limit yet is not cut to the argument',
@@ -19,6 +20,11 @@ SHARED = {
     'fit-content limit in shares': 'a fit-content limit has room beyond its argument',
     'infinitely growable': 'no limit is infinitely growable in (f)',
     'largest increase': 'the increases that items give a track add up',
+    'one last batch': 'the items across fr tracks come batch by batch in rising span',
+    'only fr tracks': 'an item across fr tracks raises its other tracks too, as other items do',
+    'no limits in the last batch': 'an item across fr tracks raises the limits of its other tracks, as other items do',
+    'affected factors': 'the factors of all fr tracks under an item count, and what falls to those not affected goes nowhere',
+    'factors below one': 'where the factors under an item add up to less than 1, that part of the extra goes by factor, the rest equally',
 }
 INTRINSIC_MINIMA, INTRINSIC_MAXIMA = (AUTO, MIN, MAX), (AUTO, MIN, MAX, FIT)
 
@@ -35,9 +41,15 @@ class Sizing:
     def run(self):
         self.start()
         self.one_track()
-        for span in sorted({item.span for item in self.items if item.span > 1}):
-            self.batch([item for item in self.items if item.span == span])
-        self.batch([item for item in self.items if self.maximum[item.start] == FR])
+        within = [item for item in self.items if not self.crosses_fr(item)]
+        for span in sorted({item.span for item in within if item.span > 1}):
+            batch = [item for item in within if item.span == span]
+            self.raise_bases(batch)
+            self.raise_limits(batch)
+        for batch in self.last_batches([item for item in self.items if self.crosses_fr(item)]):
+            self.raise_bases(batch)
+            if 'no limits in the last batch' in self.otherwise:
+                self.raise_limits(batch)
         self.limit = [base if limit is None else limit for base, limit in zip(self.base, self.limit)]
         self.maximise()
         self.flexible()
@@ -92,12 +104,23 @@ class Sizing:
 
     # step 3
 
-    def batch(self, items):
-        """The lettered steps; (c) is for another constraint."""
+    def crosses_fr(self, item):
+        return any(self.maximum[t] == FR for t in spanned(item))
+
+    def last_batches(self, items):
+        """The one last batch."""
+        if 'one last batch' in self.otherwise:
+            return [[item for item in items if item.span == span] for span in sorted({item.span for item in items})]
+        return [items]
+
+    def raise_bases(self, items):
+        """The letters on bases; (c) is for another constraint."""
         self.bases(items, INTRINSIC_MINIMA, 'minimum', (AUTO, MIN, MAX))
         self.bases(items, (MIN, MAX), 'min_content', (AUTO, MIN, MAX))
         self.bases(items, (MAX,), 'max_content', (AUTO, MAX))
         self.limits_up_to_bases()
+
+    def raise_limits(self, items):
         growable = self.limits(items, INTRINSIC_MAXIMA, 'min_content', set())
         self.limits(items, (AUTO, MAX, FIT), 'max_content', growable)
 
@@ -108,14 +131,45 @@ class Sizing:
         for item in items:
             affected = [t for t in spanned(item) if self.minimum[t] in minima]
             extra = max(0, getattr(item, contribution) - sum(self.base[t] for t in spanned(item)))
-            gains, left = self.fill(extra, [self.room(t) for t in affected])
-            given = dict(zip(affected, gains))
-            takers = [t for t in affected if self.maximum[t] in beyond] or affected
-            for t, more in zip(takers, self.fill(left, [None] * len(takers))[0]):
-                given[t] += more
-            for t in affected:
-                increase[t] = self.add(increase[t], given[t])
+            if self.crosses_fr(item) and 'only fr tracks' not in self.otherwise:
+                affected = [t for t in affected if self.maximum[t] == FR]
+                given = self.by_factor(extra, affected, item)
+            else:
+                given = self.by_room(extra, affected, beyond)
+            for t, more in zip(affected, given):
+                increase[t] = self.add(increase[t], more)
         self.base = [base + more for base, more in zip(self.base, increase)]
+
+    def by_room(self, extra, affected, beyond):
+        """What each affected track gets up to its limit and, of what remains, beyond it."""
+        gains, left = self.fill(extra, [self.room(t) for t in affected])
+        given = dict(zip(affected, gains))
+        takers = [t for t in affected if self.maximum[t] in beyond] or affected
+        for t, more in zip(takers, self.fill(left, [None] * len(takers))[0]):
+            given[t] += more
+        return given.values()
+
+    def by_factor(self, extra, affected, item):
+        """What each affected fr track gets: its part, and the dots over go to the first with a factor. Without factors it is the fill."""
+        factors = [self.argument[t] for t in affected]
+        if sum(factors) == 0:
+            return self.fill(extra, [None] * len(affected))[0]
+        parts = self.parts(extra, factors, item)
+        if 'odd dots by factor' in self.otherwise:
+            return parts
+        gains, takers = [part // 1 for part in parts], [k for k, factor in enumerate(factors) if factor > 0]
+        for k in takers[:int(sum(parts) - sum(gains))]:
+            gains[k] += 1
+        return gains
+
+    def parts(self, extra, factors, item):
+        """The parts of the extra by factor, before they are rounded."""
+        under = sum(self.argument[t] for t in spanned(item) if self.maximum[t] == FR)
+        total = under if 'affected factors' in self.otherwise else sum(factors)
+        parts = [Fraction(extra * factor, total) for factor in factors]
+        if under < 1000 and 'factors below one' in self.otherwise:
+            parts = [(under * part + (1000 - under) * Fraction(extra, len(parts))) / 1000 for part in parts]
+        return parts
 
     def room(self, t):
         """How far a base may grow: up to its limit, for fit-content at most to the argument."""

@@ -14,19 +14,19 @@ from boards import UNIT, boards
 from command import ask, show
 from page import browser_sizes
 from reader import reader_sizes
-from rules import DIFFERENT, sizes, spanned
+from rules import DIFFERENT, sizes
 from why import ALL, NEAR, apart, rules_behind
 
-ROUNDING = ('odd dots', 'fr rounded down')
+ROUNDING = ('odd dots', 'odd dots by factor', 'fr rounded down')
 STARTS = 10
 
 
 def weight(board):
-    """What is smaller: records first, then what they span, then what is not plainly auto, then dots."""
+    """What is smaller: records first, then what they span, then what is not plainly auto or 1fr, then dots."""
     ends = [end for track in board.tracks for end in track]
     records, spans = len(board.tracks) + len(board.items), sum(item.span for item in board.items)
     dots = board.space + sum(number for kind, number in ends if kind != FR) + sum(sum(item[2:]) for item in board.items)
-    extras = sum(kind != AUTO for kind, _ in ends) + board.stretch + (board.gutter is not None)
+    extras = sum((kind != AUTO) + (kind == FR and number != 1000) for kind, number in ends) + board.stretch + (board.gutter is not None)
     return records, spans, extras, dots, lines(board)
 
 
@@ -38,6 +38,12 @@ def without_track(board, t):
         if not (inside and item.span == 1):
             items.append(item._replace(start=item.start - (item.start > t), span=item.span - inside))
     return board._replace(tracks=tracks, items=items)
+
+
+def without_gutters(board):
+    """Without them, and without their dots."""
+    dots = board.gutter * (len(board.tracks) - 1)
+    return board._replace(gutter=None, space=max(0, board.space - dots))
 
 
 def less(number):
@@ -98,14 +104,14 @@ def candidates(board):
     for space in less(board.space):
         yield board._replace(space=space)
     yield board._replace(stretch=False)
-    yield board._replace(gutter=None)
+    if board.gutter is not None:
+        yield without_gutters(board)
 
 
 def can_be_laid_out(board):
     """Whether the sheet is accepted and CSS can write it."""
     rising = all(item.minimum <= item.min_content <= item.max_content for item in board.items)
-    over_fr = any(item.span > 1 and board.tracks[t].maximum[0] == FR for item in board.items for t in spanned(item))
-    return rising and not over_fr and all(track.maximum[0] != FIT or track.minimum[0] == AUTO for track in board.tracks)
+    return rising and all(track.maximum[0] != FIT or track.minimum[0] == AUTO for track in board.tracks)
 
 
 def shows(rule, board, browser):

@@ -1,16 +1,18 @@
 -- The share by factor as the code makes it: the factors that it loads, the quotas with the factors on top, and what is taken off again. Assumes
 -- nothing.
 use mathlib.Core.Path.{_≡_, refl, sym, ap, ap₂, _∙_}
-use mathlib.Core.Bool.{Bool, true, false, _&&_, and-false}
+use mathlib.Core.Bool.{Bool, true, false, cond, _&&_}
 use mathlib.Core.List.{List, [], _∷_, map, zipWith}
 use Prim.Native.Nat.{ℕ, zero, suc, _+_, _-_, _≤_, _<_, zero-le}
 use native.Mathlib.Nat.{mul-comm, mul-le-mul-left, div-le-of-le-mul}
 use native.Mathlib.Omega.{arith}
-use lib.ListN.{length, getD, drop, replicate, length-map, drop-of-length-le}
+use lib.Dec.{eqb}
+use lib.ListN.{length, getD, drop, set, replicate, length-map, drop-of-length-le}
+use Rattle.laws.specs.Tests.{both-true, never}
 use Rattle.laws.specs.Sums.{sum, getD-le-sum}
 use Rattle.laws.specs.Marks.{bit}
 use Rattle.laws.specs.Walk.{next}
-use Rattle.laws.specs.Lists.{All}
+use Rattle.laws.specs.Lists.{All, some}
 use Rattle.rounds.specs.Rule.{gainsOf, fill, oddTakers}
 use Rattle.rounds.specs.Rule as fill
 use Rattle.rounds.specs.Rests.{openMarks, takeMarked, takeOdd, lost}
@@ -23,28 +25,44 @@ use Rattle.spanned.specs.Sound.{mostOf}
 use Rattle.lines.specs.declared.line.Line.{Line}
 use Rattle.lines.specs.ByFactor.{counted, thoseFactors, quota, quotas, dotsOver, hasFactor, withOdd, byFactors, unlimited, plainly}
 use Rattle.lines.specs.Rule.{number, moreGains, affectsFr, sharesByFactor}
+use Rattle.lines.specs.Rule as rule
 use Rattle.lines.specs.Rows.{lineOf}
 use Rattle.lines.specs.Fits.{LinesFit}
-use Rattle.lines.proofs.ByFactor.{length-plainly, share-plain, share-weighed}
+use Rattle.lines.proofs.ByFactor.{length-plainly, share-plain, share-weighed, shares-by-factor-add}
 use Rattle.letters.specs.declared.letter.Letter.{Letter}
 use Rattle.letters.specs.declared.share.Share.the-variants.{Plain}
 use Rattle.letters.specs.Letters.{letterOf}
 use Rattle.letters.specs.Shares.{shareTracks, GainsFit}
 use Rattle.letters.specs.Factors.{lineFactor, FactorsFit}
 use Rattle.letters.proofs.Steps.{linesFrom, lines-next, lines-end}
+use Rattle.letters.specs.declared.batch.Batch.the-variants.{Last}
 use Rattle.letters.proofs.Shared.{zeros-more, tracks-of-zeros}
+use Rattle.letters.proofs.Keeps.{length-shares-in}
 
 -- ---- a factor that counts
 
--- of a line that is not fr, none
-pub no-factor : (affected : Bool) (m : Maximum) → isFrMaximum m ≡ false → 0 ≡ counted (affected && isFrMaximum m) (maximumNumber m)
-no-factor affected m e = rw (e, and-false affected) refl
+-- a maximum by what its tag is
+abbrev maximumBy : ℕ → (fixed auto least most fit : Bool) → Maximum
+maximumBy n fixed auto least most fit =
+    cond fixed (maximum.Fixed n) (cond auto maximum.Auto (cond least maximum.MinContent (cond most maximum.MaxContent (cond fit (maximum.FitContent n) (maximum.Fr n)))))
 
-pub fr-factor : (affected : Bool) (m : Maximum) (factor : ℕ) → affected ≡ true → m ≡ maximum.Fr factor → factor ≡ counted (affected && isFrMaximum m) (maximumNumber m)
-fr-factor affected m factor a e = rw (e, a) refl
+-- the factor of an fr track is the number in its row
+number-of-fr : (n : ℕ) (fixed auto least most fit : Bool) → isFrMaximum (maximumBy n fixed auto least most fit) ≡ true → n ≡ maximumNumber (maximumBy n fixed auto least most fit)
+number-of-fr n true auto least most fit e = refl
+number-of-fr n false true least most fit e = never e refl
+number-of-fr n false false true most fit e = never e refl
+number-of-fr n false false false true fit e = never e refl
+number-of-fr n false false false false true e = refl
+number-of-fr n false false false false false e = refl
 
-pub unaffected-factor : (affected : Bool) (m : Maximum) → affected ≡ false → 0 ≡ counted (affected && isFrMaximum m) (maximumNumber m)
-unaffected-factor affected m a = rw a refl
+pub row-factor : (letter : Letter) (row : Row) → affectsFr (letterOf letter) (lineOf row) ≡ true → getD row 3 0 ≡ lineFactor letter (lineOf row)
+row-factor letter row e =
+    number-of-fr (getD row 3 0) (eqb (getD row 2 0) 1) (eqb (getD row 2 0) 2) (eqb (getD row 2 0) 3) (eqb (getD row 2 0) 4) (eqb (getD row 2 0) 5)
+    (both-true (letterOf letter .affected (lineOf row)) (isFrMaximum (lineOf row .track .maximum)) e .1)
+    ∙ ap (λ (b : Bool). counted b (number (lineOf row))) (sym e)
+
+pub no-factor : (letter : Letter) (l : Line) → affectsFr (letterOf letter) l ≡ false → 0 ≡ lineFactor letter l
+no-factor letter l e = ap (λ (b : Bool). counted b (number l)) (sym e)
 
 -- the factors of lines within their limits are within theirs
 factor-le : (affected : Bool) (m : Maximum) → maximumNumber m ≤ mostOf m → counted (affected && isFrMaximum m) (maximumNumber m) ≤ mostFactor
@@ -188,3 +206,23 @@ module _ (letter : Letter) (extra : ℕ) (ls : List Line) (fs : List ℕ) (are :
       ∙ ap (λ (ts : List fill.Track). moreGains (replicate (length ls) 0) (fill extra ts)) (tracks-of-zeros (Plain letter) ls ∙ plain-tracks ls)
       ∙ zeros-more (length ls) (gainsOf (fill extra (map unlimited marks) .tracks)) (length-plainly extra marks ∙ length-map ls (affectsFr (letterOf letter)))
       ∙ sym (share-plain extra marks (map number ls) (ap sum those-are ∙ z))
+
+-- ---- a line alone
+
+one-of-sum : (xs : List ℕ) (n : ℕ) → length xs ≡ 1 → sum xs ≡ n → xs ≡ n ∷ []
+unfolding sum
+one-of-sum [] n long e = absurd (omega arith)
+one-of-sum (x ∷ []) n long e = ap (_∷ []) (omega arith)
+one-of-sum (x ∷ y ∷ xs) n long e = absurd (omega arith)
+
+set-one : (gs : List ℕ) (n : ℕ) → length gs ≡ 1 → set gs 0 n ≡ n ∷ []
+set-one [] n long = absurd (omega arith)
+set-one (g ∷ []) n long = refl
+set-one (g ∷ h ∷ gs) n long = absurd (omega arith)
+
+-- takes all the dots
+pub alone-shared : (letter : rule.Letter) (extra : ℕ) (ls : List Line) (gs : List ℕ) → length ls ≡ 1 → length gs ≡ 1 → some (affectsFr letter) ls ≡ true
+    → set gs 0 extra ≡ sharesByFactor letter extra ls
+alone-shared letter extra ls gs alone long e =
+    set-one gs extra long
+    ∙ sym (one-of-sum (sharesByFactor letter extra ls) extra (length-shares-in Last letter extra ls ∙ alone) (shares-by-factor-add letter extra ls e))

@@ -6,6 +6,7 @@ use crate::letter::Letter;
 use crate::share::share_extra;
 use lines::Line;
 ghost use mathlib.Core.Path.{_≡_};
+ghost use mathlib.Core.Bool.{true};
 ghost use Prim.Native.Nat.{_≤_};
 ghost use Rattle.laws.specs.Lists.{some};
 ghost use Rattle.rounds.specs.Rule.{mostDots};
@@ -46,7 +47,7 @@ pub fn affects_some(batch: Batch, letter: Letter, lines: &[[u32; 8]]) -> bool
     false
 }
 
-// The extra dots of an item, shared as its batch has it.
+// The extra dots of an item, shared as its batch has it among lines of which one at least is affected.
 pub fn share_in(
     batch: Batch,
     letter: Letter,
@@ -55,7 +56,10 @@ pub fn share_in(
     gains: &mut [u32],
     rests: &mut [u32],
 )
-    requires { ⌜ Scratch (now lines) (now gains) (now rests) × (extra ≤ mostDots) × LinesFit (linesOf (now lines)) ⌝ }
+    requires { ⌜ Scratch (now lines) (now gains) (now rests)
+        × (extra ≤ mostDots)
+        × LinesFit (linesOf (now lines))
+        × (some (affectedIn batch (letterOf letter)) (linesOf (now lines)) ≡ true) ⌝ }
     ensures { λ _. ⌜ now (gains .exit) ≡ sharesIn batch (letterOf letter) extra (linesOf (now (lines .entry))) ⌝ }
 {
     match batch {

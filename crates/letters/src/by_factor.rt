@@ -4,20 +4,21 @@ use crate::letter::Letter;
 use crate::share::Share;
 use crate::share::share_out;
 use crate::share::take_off;
-use kinds::Maximum;
 use lines::Line;
 use rounds::less;
 use rounds::take_odd;
 use spanned::is_fr;
 ghost use mathlib.Core.Path.{_≡_};
+ghost use mathlib.Core.Bool.{true};
 ghost use mathlib.Core.List.{zipWith};
 ghost use Prim.Native.Nat.{_+_, _≤_, _<_};
 ghost use lib.ListN.{length};
+ghost use Rattle.laws.specs.Lists.{some};
 ghost use Rattle.laws.specs.Sums.{sum};
 ghost use Rattle.rounds.specs.Rule.{mostTracks, mostDots};
 ghost use Rattle.lines.specs.ByFactor.{quota, quotas, dotsOver, byFactors};
 ghost use Rattle.lines.specs.Rule.{affectsFr, sharesByFactor};
-ghost use Rattle.lines.specs.Rows.{linesOf};
+ghost use Rattle.lines.specs.Rows.{lineOf, linesOf};
 ghost use Rattle.lines.specs.Fits.{LinesFit};
 ghost use Rattle.letters.specs.Letters.{letterOf};
 ghost use Rattle.letters.specs.Shares.{Scratch};
@@ -30,26 +31,14 @@ pub(crate) fn affects_fr(letter: Letter, line: Line) -> bool
     affected & is_fr(line.track)
 }
 
-// A line's factor, or 0 where the letter does not affect it or it is not fr.
-fn line_factor(letter: Letter, line: Line) -> u32
-    ensures { λ r. ⌜ r ≡ lineFactor letter line ⌝ }
+// The factor of a line, which its row has as the maximum's number; 0 where the letter does not affect it or it is not fr.
+fn line_factor(letter: Letter, row: [u32; 8]) -> u32
+    ensures { λ r. ⌜ r ≡ lineFactor letter (lineOf row) ⌝ }
 {
-    let affected = letter.affected(line);
-    let track = line.track;
-    let maximum = track.maximum;
-    match maximum {
-        Maximum::Fixed(_) => 0,
-        Maximum::Auto => 0,
-        Maximum::MinContent => 0,
-        Maximum::MaxContent => 0,
-        Maximum::FitContent(_) => 0,
-        Maximum::Fr(factor) => {
-            if affected {
-                return factor;
-            }
-            0
-        }
+    if affects_fr(letter, Line::of_row(row)) {
+        return row[3];
     }
+    0
 }
 
 // The factors that count, into gains and rests. All of them together come back.
@@ -62,7 +51,7 @@ fn load_factors(letter: Letter, lines: &[[u32; 8]], gains: &mut [u32], rests: &m
     let mut total: u64 = 0;
     let mut i = 0;
     while i < lines.len() {
-        let factor = line_factor(letter, Line::of_row(lines[i]));
+        let factor = line_factor(letter, lines[i]);
         gains[i] = factor;
         rests[i] = factor;
         total += factor as u64;
@@ -116,7 +105,7 @@ fn share_quotas(dots: u32, total: u64, gains: &mut [u32], rests: &mut [u32])
     take_off(rests, gains);
 }
 
-// An item's extra dots by factor, or by the plain fill where all factors are 0: the gains are then 0 before it.
+// An item's extra dots by factor, or by the plain fill where all factors are 0: the gains are then 0 before it. A line alone takes all of them.
 pub(crate) fn share_by_factor(
     letter: Letter,
     extra: u32,
@@ -124,9 +113,16 @@ pub(crate) fn share_by_factor(
     gains: &mut [u32],
     rests: &mut [u32],
 )
-    requires { ⌜ Scratch (now lines) (now gains) (now rests) × (extra ≤ mostDots) × LinesFit (linesOf (now lines)) ⌝ }
+    requires { ⌜ Scratch (now lines) (now gains) (now rests)
+        × (extra ≤ mostDots)
+        × LinesFit (linesOf (now lines))
+        × (some (affectsFr (letterOf letter)) (linesOf (now lines)) ≡ true) ⌝ }
     ensures { λ _. ⌜ now (gains .exit) ≡ sharesByFactor (letterOf letter) extra (linesOf (now (lines .entry))) ⌝ }
 {
+    if lines.len() == 1 {
+        gains[0] = extra;
+        return;
+    }
     let total = load_factors(letter, lines, gains, rests);
     if total == 0 {
         share_out(Share::Plain(letter), extra, lines, gains, rests);

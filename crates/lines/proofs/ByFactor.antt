@@ -290,9 +290,13 @@ affected-at p (l ∷ on) e = go (p l) refl e (affected-at p on)
     go true q r later = (0, q)
     go false q r later = let k = later r in (suc (k .0), k .1)
 
+pub shares-by-factor-add : (letter : Letter) (extra : ℕ) (on : List Line) → some (affectsFr letter) on ≡ true → sum (sharesByFactor letter extra on) ≡ extra
+unfolding sharesByFactor
+shares-by-factor-add letter extra on e =
+    let k = affected-at (affectsFr letter) on e in share-adds extra (map (affectsFr letter) on) (map rule.number on) (k .0) (k .1)
+
 -- what it gives adds to its extra dots whenever the letter affects an fr track that it spans
 pub item-gains-add : (letter : Letter) (c : Constraint) (i : Measured) (on : List Line) → some (affectsFr letter) on ≡ true
     → sum (gainsBy sharesByFactor letter c i on) ≡ extraOf letter c i on
-unfolding gainsBy sharesByFactor
-item-gains-add letter c i on e =
-    let k = affected-at (affectsFr letter) on e in share-adds (extraOf letter c i on) (map (affectsFr letter) on) (map rule.number on) (k .0) (k .1)
+unfolding gainsBy
+item-gains-add letter c i on e = shares-by-factor-add letter (extraOf letter c i on) on e

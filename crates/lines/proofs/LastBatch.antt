@@ -3,7 +3,6 @@ use mathlib.Core.Path.{_≡_, refl, ap, _∙_}
 use mathlib.Core.Bool.{Bool, false, _&&_, and-false}
 use mathlib.Core.List.{List, [], _∷_, map, zipWith}
 use Prim.Native.Nat.{ℕ, zero, suc, _+_, _≤_, _<_, suc-le-suc}
-use native.Mathlib.Nat.{add-zero}
 use native.Mathlib.Omega.{arith}
 use lib.ListN.{length, getD, replicate}
 use Rattle.laws.specs.Lists.{All, keep}
@@ -14,7 +13,7 @@ use Rattle.kinds.specs.declared.track.Track.{Track}
 use Rattle.spanned.specs.Rule.{isFr}
 use Rattle.lines.specs.declared.line.Line.{Line}
 use Rattle.lines.specs.declared.measured.Measured.{Measured}
-use Rattle.lines.specs.Rule.{number, Letter, letterA, letterB, letterC, letterD, affectsFr, sharesByFactor, extraOf, gainsBy, increasedBy, increases, raise, spanned, onFr, baseLetters, batched, lastBatch}
+use Rattle.lines.specs.Rule.{number, Letter, affectsFr, sharesByFactor, extraOf, gainsBy, increasedBy, increases, raise, spanned, onFr, baseLetters, batched, lastBatch}
 use Rattle.lines.proofs.ByFactor.{unaffected-gains-nothing}
 use Rattle.lines.proofs.Increases.{getD-zeros, spanned-at, larger-from-le, length-increases}
 
@@ -44,29 +43,16 @@ module _ (letter : Letter) (c : Constraint) (ls : List Line) (k : ℕ) (d : Line
       larger-from-le (i .start) (gainsBy sharesByFactor letter c i (spanned i ls)) ps k 0 (λ (j : ℕ) (at : i .start + j ≡ k). omega (arith, gain-none i j at)) p)
       batch (replicate (length ls) 0) (omega (arith, getD-zeros (length ls) k))
 
--- ---- a letter that adds an increase to the base, and nothing where there is none
+-- ---- a letter that adds an increase to the base, and leaves the track
 
-record RaisesBase (letter : Letter) : Type 0 where
-  unraised : (l : Line) → letter .grown l 0 .base ≡ l .base
-  track : (l : Line) (increase : ℕ) → letter .grown l increase .track ≡ l .track
-
-raises-a : RaisesBase letterA
-raises-a = record { unraised = λ (l : Line). add-zero (l .base); track = λ (l : Line) (x : ℕ). refl }
-
-raises-b : RaisesBase letterB
-raises-b = record { unraised = λ (l : Line). add-zero (l .base); track = λ (l : Line) (x : ℕ). refl }
-
-raises-c : RaisesBase letterC
-raises-c = record { unraised = λ (l : Line). add-zero (l .base); track = λ (l : Line) (x : ℕ). refl }
-
-raises-d : RaisesBase letterD
-raises-d = record { unraised = λ (l : Line). add-zero (l .base); track = λ (l : Line) (x : ℕ). refl }
+abbrev RaisesBase : Letter → Type 0
+RaisesBase letter = (l : Line) (increase : ℕ) → (letter .grown l increase .base ≡ l .base + increase) × (letter .grown l increase .track ≡ l .track)
 
 base-letters-raise-bases : (c : Constraint) → All RaisesBase (baseLetters c)
 unfolding All
-base-letters-raise-bases (Definite n) = (raises-a, (raises-b, (raises-d, tt)))
-base-letters-raise-bases MinContent = (raises-a, (raises-b, (raises-d, tt)))
-base-letters-raise-bases MaxContent = (raises-a, (raises-b, (raises-c, (raises-d, tt))))
+base-letters-raise-bases (Definite n) = (λ l x. (refl, refl), (λ l x. (refl, refl), (λ l x. (refl, refl), tt)))
+base-letters-raise-bases MinContent = (λ l x. (refl, refl), (λ l x. (refl, refl), (λ l x. (refl, refl), tt)))
+base-letters-raise-bases MaxContent = (λ l x. (refl, refl), (λ l x. (refl, refl), (λ l x. (refl, refl), (λ l x. (refl, refl), tt))))
 
 -- the line at a place has its base and its track still
 module _ (k : ℕ) (d : Line) where
@@ -78,7 +64,7 @@ module _ (k : ℕ) (d : Line) where
   unfolding zipWith
   kept-at letter r [] xs j long z = (refl, refl)
   kept-at letter r (l ∷ ls) [] j long z = absurd (omega arith)
-  kept-at letter r (l ∷ ls) (x ∷ xs) zero long z = let none : x ≡ 0 = omega arith in (ap (λ (y : ℕ). letter .grown l y .base) none ∙ r .unraised l, r .track l x)
+  kept-at letter r (l ∷ ls) (x ∷ xs) zero long z = (omega (arith, r l x .0), r l x .1)
   kept-at letter r (l ∷ ls) (x ∷ xs) (suc j) long z = kept-at letter r ls xs j (omega arith) z
 
   raise-keeps : (c : Constraint) (batch : List Measured) (letter : Letter) → RaisesBase letter → (ls : List Line) → isFr (getD ls k d .track) ≡ false → Kept ls (raise sharesByFactor c batch letter ls)

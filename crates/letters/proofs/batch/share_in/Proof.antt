@@ -2,23 +2,30 @@
 use borrow.Author.Needs.{needs}
 use Rattle.letters.proofs.batch.share_in.Statement.{statement}
 use mathlib.Core.Path.{sym, ap, _∙_}
+use Rattle.laws.specs.Lists.{some}
 use Rattle.lines.specs.Rows.{linesOf}
 use Rattle.letters.specs.declared.batch.Batch.{Batch}
 use Rattle.letters.specs.Letters.{letterOf}
-use Rattle.letters.specs.Batches.{sharesIn}
+use Rattle.letters.specs.Batches.{affectedIn, sharesIn}
 use Rattle.letters.proofs.batch.share_in.Tie as tie
 
 enum-told : tie.Need-enum-told
 enum-told c = search needs
 
 share-extra-requires : tie.Need-share-extra-requires
-share-extra-requires c κs = search needs
+share-extra-requires c κs =
+    let s = c .before .before .before .before .before .before in
+    (search needs, s .pre .1, s .pre .2)
 
 enum-told-2 : tie.Need-enum-told-2
 enum-told-2 c = search needs
 
 share-by-factor-requires : tie.Need-share-by-factor-requires
-share-by-factor-requires c κs = search needs
+share-by-factor-requires c κs =
+    let s = c .before .before .before .before .before .before in
+    let a = s .args in
+    let told = ap (λ (kind : Batch). some (affectedIn kind (letterOf (a .letter))) (linesOf (a .lines .now))) (sym (c .before .before .enum-told2 .given .1)) in
+    (search needs, s .pre .1, s .pre .2, told ∙ s .pre .3)
 
 same-length : tie.Need-same-length
 same-length c = search needs

@@ -2,7 +2,7 @@
 -- are all. Assumes nothing.
 use borrow.Author.Needs.{needs}
 use Rattle.letters.proofs.by_factor.load_factors.Statement.{statement}
-use mathlib.Core.Path.{_≡_, refl, ap, _∙_}
+use mathlib.Core.Path.{_≡_, refl}
 use mathlib.Core.List.{List, _++_}
 use Prim.Native.Nat.{ℕ, _+_, _-_, _*_, _≤_, zero-le}
 use lib.ListN.{length, take, length-set}
@@ -30,14 +30,11 @@ abbrev μ-loop : tie.MeasureT-loop
 loop-holds : tie.Need-loop-holds Inv-loop μ-loop
 loop-holds c = (zero-le, refl, refl, refl, refl, search needs, search needs)
 
-mul-of-row : tie.Need-mul-of-row Inv-loop μ-loop
-mul-of-row c = search needs
+mul-line-factor : tie.Need-mul-line-factor Inv-loop μ-loop
+mul-line-factor c = search needs
 
-shared-slice-copy-out-of-row : tie.Need-shared-slice-copy-out-of-row Inv-loop μ-loop
-shared-slice-copy-out-of-row c = search needs
-
-of-row-requires : tie.Need-of-row-requires Inv-loop μ-loop
-of-row-requires c κs = search needs
+shared-slice-copy-out-line-factor : tie.Need-shared-slice-copy-out-line-factor Inv-loop μ-loop
+shared-slice-copy-out-line-factor c = search needs
 
 line-factor-requires : tie.Need-line-factor-requires Inv-loop μ-loop
 line-factor-requires c κs = search needs
@@ -68,10 +65,10 @@ loop-less c = search needs
 
 loop-again : tie.Need-loop-again Inv-loop μ-loop
 loop-again c =
-    let a = c .before .before .before .before .before .before .before .args in
-    let h = c .before .before .before .before .loop in
+    let a = c .before .before .before .before .before .before .args in
+    let h = c .before .before .before .loop in
     let from = factorsFrom (a .letter) (a .lines .now) in
-    let one = c .line-factor .ensures ∙ ap (lineFactor (a .letter)) (c .before .of-row .ensures) in
+    let one = c .line-factor .ensures in
     let turn = factors-step (a .letter) (a .lines .now) (h .i) _ (search needs) one in (
       search needs,
       simp length-set (h .inv .1),
@@ -106,9 +103,8 @@ load-factors-spec =
     Inv-loop
     μ-loop
     loop-holds
-    mul-of-row
-    shared-slice-copy-out-of-row
-    of-row-requires
+    mul-line-factor
+    shared-slice-copy-out-line-factor
     line-factor-requires
     mul-gains
     slice-write-gains

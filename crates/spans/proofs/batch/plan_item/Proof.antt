@@ -3,7 +3,7 @@ use borrow.Author.Needs.{needs}
 use Rattle.spans.proofs.batch.plan_item.Statement.{statement}
 use mathlib.Core.Path.{refl, sym, _∙_}
 use mathlib.Core.Bool.{true≢false}
-use borrow.Author.Tests.{not-true}
+use borrow.Author.Tests.{not-true, not-false}
 use native.Mathlib.Omega.{arith}
 use lib.Seq.{length-take-le}
 use Rattle.laws.specs.Lists.{inTurn}
@@ -108,6 +108,7 @@ share-in-requires c κs =
       },
       extra-few (a .args .lines .now) i (a .args .letter) (a .args .constraint) _ _ (a .pre .1) (c .before .before .before .before .before .extra .ensures),
       between-fits (i .start) (i .span) (a .args .lines .now) (a .pre .0 .fit),
+      sym (c .before .before .before .affects-some .ensures) ∙ not-false _ (c .before .before .if2 .left),
     )
 
 slice-reshare-prefix-lay-over : tie.Need-slice-reshare-prefix-lay-over

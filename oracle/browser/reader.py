@@ -6,13 +6,14 @@ import tempfile
 from board import ROOT, sheet
 
 READER = os.path.join(ROOT, 'target', 'bin', 'reader')
+RUN = os.path.join(ROOT, 'tools', 'run')  # on any processor
 
 
 def printed(board, folder):
     name = os.path.join(folder, 'board.sheet')
     with open(name, 'wb') as file:
         file.write(sheet(board))
-    return subprocess.run([READER, name], capture_output=True, text=True, check=True).stdout
+    return subprocess.run([RUN, 'reader', name], capture_output=True, text=True, check=True).stdout
 
 
 def bases(board, folder):

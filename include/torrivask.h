@@ -17,9 +17,10 @@ extern "C" {
 
 /* ---- The board, the fill, the sheet
  *
- * A sheet is bytes (docs/SHEET.md): a space, 256 tracks and 1,024 items at most, and so 22,033 bytes at most. As numbers it is rows, a tag
+ * A sheet is bytes (docs/SHEET.md): a space, 256 tracks and 1,024 items at most, and so 22,034 bytes at most. As numbers it is rows, a tag
  * and the number beside it for each of:
- *    space, five numbers: constraint (1 definite; 2 min-content, 3 max-content), inner size (1 given; 0 absent); last stretch, 0 or 1
+ *    space, six numbers: constraint (1 definite; 2 min-content, 3 max-content), inner size (1 given; 0 absent); then stretch, 0 or 1; last
+ *       the axis, 0 inline (columns) or 1 block (rows)
  *    track, four: minimum (1 fixed; 2 auto, 3 min-content, 4 max-content), maximum (1 fixed, 5 fit-content, 6 fr in thousandths; 2 auto,
  *       3 min-content, 4 max-content)
  *    item, seven: first start + 65536 * span, both below 65536; then minimum, min-content and max-content contribution (each 1 given;
@@ -31,7 +32,7 @@ extern "C" {
  *    1  a count or a record is not wholly there; the sheet's length
  *    2  bytes follow the items; the first of them
  *    3  the space's count is not 1, or more tracks or items than above; the count's first byte
- *    4  a tag or a stretch that is not listed; its byte
+ *    4  a tag, a stretch or an axis that is not listed; its byte
  *    5  a number beside a tag that carries none is not 0; its first byte
  *    6  too few sizes, rows or bytes are lent; place 0
  *    7  a number over its limit: 65,535 for fixed sizes, fit-content arguments and contributions, 100,000 for factors, 16,777,215 for
@@ -44,9 +45,15 @@ extern "C" {
  */
 
 /* The numbers of a space's row, and the bytes of the longest sheet. Declare rows and buffers by these names: where a sheet grows, a caller
- * that is compiled again grows with it. */
-#define TORRIVASK_SPACE_NUMBERS 5
-#define TORRIVASK_LONGEST_SHEET 22033
+ * that is compiled again grows with it. The row had five numbers before the axis came: a caller that is not compiled again lends one too
+ * few, and neither compiler nor linker says so. */
+#define TORRIVASK_SPACE_NUMBERS 6
+#define TORRIVASK_LONGEST_SHEET 22034
+
+/* axes, the last number of a space's row. The axis is read under min-content without an inner size alone: fr tracks then grow in the block
+ * axis as under max-content, and stay shut in the inline axis. */
+#define TORRIVASK_INLINE 0u
+#define TORRIVASK_BLOCK 1u
 
 /* Sizes a sheet, in dots. Base and growth limit of track t become sizes[t]; those past the tracks keep what they hold. *tracks becomes the
  * number of tracks, *rounds that of the passes in which the tracks are maximised. *definite becomes whether there is a free space: where

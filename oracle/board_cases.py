@@ -27,7 +27,7 @@ import sys
 
 sys.dont_write_bytecode = True
 from board_model import (
-    AUTO, BOARD, DEFINITE, FIT, FIXED, FR, LARGEST, LONGEST, MAX, MIN, MOST_ITEMS, MOST_TRACKS, REFUSAL, SPACE_LIMIT, UNDER_MAX, UNDER_MIN,
+    AUTO, BLOCK, BOARD, DEFINITE, FIT, FIXED, FR, INLINE, LARGEST, LONGEST, MAX, MIN, MOST_ITEMS, MOST_TRACKS, REFUSAL, SPACE_LIMIT, UNDER_MAX, UNDER_MIN,
     Item, Track, board_of, byte_faults, fill, printed, record_faults, sheet_in,
 )
 from case_text import runs
@@ -44,9 +44,9 @@ def tagged(pair):
     return bytes([pair[0]]) + pair[1].to_bytes(4, 'little')
 
 
-def sheet_bytes(constraint, inner, stretch, tracks, items):
+def sheet_bytes(constraint, inner, stretch, axis, tracks, items):
     return (
-        u16(1) + tagged(constraint) + tagged(inner) + bytes([stretch])
+        u16(1) + tagged(constraint) + tagged(inner) + bytes([stretch, axis])
         + u16(len(tracks)) + b''.join(tagged(track.minimum) + tagged(track.maximum) for track in tracks)
         + u16(len(items)) + b''.join(u16(item.start) + u16(item.span) + b''.join(map(tagged, item.row)) for item in items)
     )
@@ -81,9 +81,9 @@ def given(n):
     return (0, 0) if n is None else (1, n)
 
 
-def sheet(tracks, items=(), constraint=definite(100), inner=100, stretch=0):
+def sheet(tracks, items=(), constraint=definite(100), inner=100, stretch=0, axis=INLINE):
     """The bytes of a sheet whose tracks are pairs of a minimum and a maximum."""
-    return sheet_bytes(constraint, given(inner), stretch, [Track(*track) for track in tracks], list(items))
+    return sheet_bytes(constraint, given(inner), stretch, axis, [Track(*track) for track in tracks], list(items))
 
 
 # ---- text
@@ -100,7 +100,7 @@ def listed_free(free):
 def listed_bytes(data):
     """The bytes in groups: counts, records, and in a sheet of few records their parts."""
     found, at = [], 0
-    for parts in ((5, 5, 1), (5, 5), (2, 2, 5, 5, 5)):
+    for parts in ((5, 5, 1, 1), (5, 5), (2, 2, 5, 5, 5)):
         count = int.from_bytes(data[at:at + 2], 'little')
         found.append(data[at:at + 2])
         at += 2
@@ -162,6 +162,21 @@ class Cases:
         else:
             assert sheet_bytes(*sheet_in(data)) == data, name
             assert after[told[1]:] == before[told[1]:] and len(after) == len(before), name
+        self.hold_axes(name, data, before, told, after)
+
+    def hold_axes(self, name, data, before, told, after):
+        """The other axis gives the same answer, but for the sizes of fr tracks under min-content without inner size: those are no smaller in
+        the block axis, and all else is the same."""
+        other, other_after, _ = board_of(with_bytes(data, (AXIS_AT, 1 - data[AXIS_AT])), before)
+        read = sheet_in(data)
+        if read.constraint != under_min or read.inner[0]:
+            assert (other, other_after) == (told, after), name
+            return
+        assert other == told, name
+        inline, block = (after, other_after) if read.axis == INLINE else (other_after, after)
+        for t, (one, two) in enumerate(zip(inline, block)):
+            is_fr = t < len(read.tracks) and read.tracks[t].maximum[0] == FR
+            assert one[1] == two[1] and (one[0] <= two[0] if is_fr else one[0] == two[0]), name
 
     def heading(self):
         """How many cases there are of each kind."""
@@ -182,16 +197,17 @@ def tracks_said(data):
 
 # ---- the cases
 
-W12 = bytes.fromhex('0100 0164000000 0164000000 00 0100 0200000000 0100000000 0100 0000 0100 011E000000 011E000000 011E000000')
-# Where the counts of its tracks and of its items stand, and where it ends: places behind the space are told from these.
-TRACKS_AT = 2 + 11
+W12 = bytes.fromhex('0100 0164000000 0164000000 00 00 0100 0200000000 0100000000 0100 0000 0100 011E000000 011E000000 011E000000')
+# Where its axis byte and the counts of its tracks and of its items stand, and where it ends: places behind the space are told from these.
+AXIS_AT = 2 + 11
+TRACKS_AT = AXIS_AT + 1
 ITEMS_AT = TRACKS_AT + 2 + 10
 W12_END = ITEMS_AT + 2 + 19
 AUTOS = [(auto, auto)] * 2
 
 
 def paper(c):
-    assert sheet([(auto, fixed(0))], [item(0, 1, 30, 30, 30)]) == W12 and len(W12) == 46
+    assert sheet([(auto, fixed(0))], [item(0, 1, 30, 30, 30)]) == W12 and len(W12) == 47
     c.add('W7', sheet([(fixed(0), fr(1_000)), (fixed(0), fr(2_000))]), bases=[33, 66], free=1, rounds=0)
     c.add('W8', sheet([(fixed(60), fr(1_000)), (fixed(0), fr(1_000))]), bases=[60, 40], free=0)
     c.add('W9', sheet([(fixed(0), fr(500))]), bases=[50], free=50)
@@ -230,7 +246,7 @@ def refused_by_bytes(c):
     for length in (TRACKS_AT + behind for behind in (2, 11, 12, 21, 22, 23, 24, 42, 43, 61)):
         c.add(f'two tracks and items cut to {length} bytes', two[:length], want=(1, length))
     most = sheet([(auto, auto)] * 256, [item(0, 256, 1, 2, 3)] * 1_024)
-    assert len(most) == LONGEST == 22_033
+    assert len(most) == LONGEST == 22_034
     c.add('the longest sheet without its last byte', most[:-1], want=(1, LONGEST - 1))
     c.add('the longest sheet without its last item', most[:-19], want=(1, LONGEST - 19))
     c.group = '2'
@@ -248,7 +264,7 @@ def refused_by_bytes(c):
     c.add('257 tracks, whole', sheet([(auto, auto)] * 257), places=300, want=(3, TRACKS_AT))
     c.add('1,025 items, whole', sheet(AUTOS, [item(0, 1, 1, 2, 3)] * 1_025), want=(3, TRACKS_AT + 22))
     c.group = '4'
-    tags = ((2, 1, 3), (7, 0, 1), (12, 0, 1), (TRACKS_AT + 2, 1, 4), (TRACKS_AT + 7, 1, 6),
+    tags = ((2, 1, 3), (7, 0, 1), (12, 0, 1), (AXIS_AT, 0, 1), (TRACKS_AT + 2, 1, 4), (TRACKS_AT + 7, 1, 6),
             (ITEMS_AT + 6, 0, 1), (ITEMS_AT + 11, 0, 1), (ITEMS_AT + 16, 0, 1))
     for at, least, largest in tags:
         for tag in ({least - 1, largest + 1, 255} - {-1}):
@@ -269,7 +285,11 @@ def refused_by_bytes(c):
     c.add('1 before a look inside', with_bytes(W12, (ITEMS_AT + 6, 9))[:W12_END - 1], want=(1, W12_END - 1))
     c.add('4 before 1 of a later record', with_bytes(two, (TRACKS_AT + 28, 9))[:TRACKS_AT + 47], want=(4, TRACKS_AT + 28))
     c.add('4 before 1 of the next section', with_bytes(W12, (12, 7))[:TRACKS_AT + 1], want=(4, 12))
-    c.add('5 before 3 of the next section', with_bytes(W12, (16, 1), (26, 255)), want=(5, 16))
+    c.add('4 of stretch before 4 of the axis', with_bytes(W12, (12, 2), (AXIS_AT, 2)), want=(4, 12))
+    c.add('4 of the axis before 3 of the next section', with_bytes(W12, (AXIS_AT, 2), (TRACKS_AT + 1, 255)), want=(4, AXIS_AT))
+    c.add('5 before 4 of the axis', with_bytes(W12, (7, 0), (AXIS_AT, 255)), want=(5, 8))
+    c.add('1 of the space before 4 of stretch', with_bytes(W12, (12, 2))[:AXIS_AT], want=(1, AXIS_AT))
+    c.add('5 before 3 of the next section', with_bytes(W12, (TRACKS_AT + 3, 1), (ITEMS_AT + 1, 255)), want=(5, TRACKS_AT + 3))
 
 
 def refused_by_places(c):
@@ -705,6 +725,81 @@ def across_kinds(c):
                 c.add(name, sheet(fr_tracks(auto, *pair) + [(fixed(3), fixed(3))], rows[1:], constraint, inner))
 
 
+def axes(c):
+    """Both axes: the block axis opens fr tracks under min-content where no inner size is given, and changes nothing else."""
+    c.group = 'axis'
+    words = ((INLINE, 'inline'), (BLOCK, 'block'))
+
+    def shown(name, tracks, items, inline, block, constraint=under_min, inner=None, stretch=0, **more):
+        for (axis, word), bases in zip(words, (inline, block)):
+            c.add(f'{name}, {word}', sheet(tracks, items, constraint, inner, stretch, axis), bases=bases, **more)
+
+    # a row from 0 to 1fr was shut
+    one = [item(0, 1, 10, 20, 30)]
+    shown('an fr row from 0', [(fixed(0), fr(1_000))], one, [0], [30], limits=[0], free=None, rounds=0)
+    shown('an fr row from auto', [(auto, fr(1_000))], one, [20], [30], limits=[20], free=None)
+    shown('an fr row from min-content', [(min_content, fr(1_000))], one, [20], [30], limits=[20])
+    shown('an fr row from max-content', [(max_content, fr(1_000))], one, [30], [30], limits=[30])
+    shown('an fr row without items', [(fixed(0), fr(1_000))], [], [0], [0])
+    shown('no row', [], [], [], [], free=None)
+    shown('no fr row', [(auto, auto), (min_content, fit(25))], [item(0, 1, 5, 8, 13), item(1, 1, 10, 20, 45)], [8, 20], [8, 20], limits=[13, 25])
+    shown('0fr', [(fixed(0), fr(0))], one, [0], [0])
+    shown('0.5fr', [(fixed(0), fr(500))], one, [0], [15])
+    shown('1fr and 2fr', [(fixed(0), fr(1_000)), (fixed(0), fr(2_000))], one, [0, 0], [30, 60])
+    shown('the base of a row decides', [(fixed(90), fr(2_000)), (fixed(0), fr(1_000))], one, [90, 0], [90, 45])
+    shown('across two fr rows', [(fixed(0), fr(1_000)), (fixed(0), fr(2_000))], [item(0, 2, 10, 20, 61)], [0, 0], [20, 40])
+    shown('across a fixed row and an fr row', [(fixed(4), fixed(4)), (fixed(0), fr(1_000))], [item(0, 2, 10, 20, 61)], [4, 0], [4, 57])
+
+    # steps 2, 3 and 5 read the constraint as given: a row that is not fr stays at its min-content, and does not grow to its limit
+    beside = [(auto, auto), (fixed(0), fr(1_000))]
+    shown('a row beside stays at min-content', beside, [item(0, 1, 10, 20, 45), item(1, 1, 10, 20, 30)], [20, 0], [20, 30], limits=[45, 0], rounds=0)
+    shown('rows beside, (c) has no part', [(auto, auto)] * 2 + beside[1:], [item(0, 2, 10, 30, 60), item(2, 1, 10, 20, 30)], [15, 15, 0], [15, 15, 30], limits=[30, 30, 0])
+    shown('a row beside from 0 does not grow', [(fixed(0), fixed(50)), (fixed(0), fr(1_000))], one + [item(1, 1, 10, 20, 30)], [0, 0], [0, 30], limits=[50, 0])
+    shown('an auto row from the last batch', [(auto, fr(1_000)), (auto, fr(1_000))], [item(0, 2, 10, 30, 61)], [15, 15], [30, 30], limits=[15, 15])
+
+    # not stretched, since the expansion space is not definite
+    shown('stretch is asked', beside, [item(0, 1, 10, 20, 45), item(1, 1, 10, 20, 30)], [20, 0], [20, 30], stretch=1, free=None)
+
+    # an inner size of 0 is given, and not absent
+    shown('inner size 0', [(fixed(0), fr(1_000))], one, [0], [0], inner=0, free=0)
+    shown('inner size 0, from auto', [(auto, fr(1_000))], one, [20], [20], inner=0, free=-20)
+    shown('inner size 50', [(fixed(0), fr(1_000))], one, [50], [50], inner=50, free=0)
+    shown('definite without inner size', beside, [item(0, 1, 10, 20, 45), item(1, 1, 10, 20, 30)], [45, 30], [45, 30], definite(100), free=None)
+    shown('max-content without inner size', beside, [item(0, 1, 10, 20, 45), item(1, 1, 10, 20, 30)], [45, 30], [45, 30], under_max, free=None)
+    shown('W12', [(auto, fixed(0))], [item(0, 1, 30, 30, 30)], [30], [30], definite(100), 100, limits=[30], free=70, rounds=0)
+
+    for value, want in ((0, None), (1, None), (2, (4, AXIS_AT)), (255, (4, AXIS_AT))):
+        c.add(f'byte {AXIS_AT} of W12 is {value}', with_bytes(W12, (AXIS_AT, value)), want=want)
+        rows = sheet([(fixed(0), fr(1_000))], one, under_min, None)
+        c.add(f'byte {AXIS_AT} of an fr row is {value}', with_bytes(rows, (AXIS_AT, value)), want=want)
+
+    # every constraint, with and without inner size, rows of every kind beside fr rows
+    rows = [item(0, 1, 8, 11, 19), item(1, 1, 6, 9, 40), item(2, 1, 4, 7, 12), item(0, 2, 20, 45, 62), item(1, 2, 25, 30, 77)]
+    neighbours = [(auto, auto), (fixed(12), fixed(12)), (auto, fit(35)), (min_content, min_content), (max_content, max_content), (fixed(12), fr(700))]
+    for constraint, word in CONSTRAINT_WORDS:
+        for inner in (None, 0, 150):
+            for other in neighbours:
+                for axis, along in words:
+                    name = f'{other[0][0]} to {other[1][0]}, {word}, inner {inner}, {along}'
+                    c.add(name, sheet([other, (auto, fr(1_000)), (fixed(0), fr(1_500))], rows, constraint, inner, inner == 150, axis))
+
+
+def without_axis(c):
+    """Sheets whose space ends with the stretch byte, as it once did: the table refuses them like any other bytes."""
+    c.group = 'no axis byte'
+
+    def earlier(data):
+        return data[:AXIS_AT] + data[TRACKS_AT:]
+
+    c.add('W12', earlier(W12), want=(3, 14))
+    c.add('no tracks and no items', earlier(sheet([])), want=(1, 17))
+    c.add('1 track of fixed minimum', earlier(sheet([(fixed(7), auto)])), places=300, want=(4, 16))
+    c.add('2 tracks', earlier(sheet(AUTOS)), want=(4, 13))
+    c.add('256 tracks', earlier(sheet([(auto, auto)] * 256)), places=256, want=(3, 14))
+    for name in ('tariff', 'tariff_narrow', 'day_pass', 'rows'):
+        c.add(f'the example {name}', earlier(examples()[name]), want=(4, 13))
+
+
 def overfull(c):
     c.group = 'overfull'
     c.add('one fixed track', sheet([(fixed(150), fixed(150))]), bases=[150], free=-50, rounds=0)
@@ -779,10 +874,10 @@ def random_boards(c):
         items = random_items(r, tracks, r.choice((0, 1, 2, 3, 4, 5, 6)))
         constraint = r.choice((definite(r.randrange(0, 200)), definite(100), under_min, under_max))
         inner = r.choice((None, 100, r.randrange(0, 250)))
-        c.add(f'{k}', sheet(tracks, items, constraint, inner, r.randrange(2)), places=len(tracks) + r.choice((0, 0, 1, 3)))
+        c.add(f'{k}', sheet(tracks, items, constraint, inner, r.randrange(2), r.randrange(2)), places=len(tracks) + r.choice((0, 0, 1, 3)))
     for k in range(8):
         tracks = random_tracks(r, 20 + 4 * k, (2, 0)[k % 2])
-        c.add(f'large {k}', sheet(tracks, random_items(r, tracks, 12 + 3 * k), (definite(700), under_max, under_min)[k % 3], (800, None)[k % 2], k % 2))
+        c.add(f'large {k}', sheet(tracks, random_items(r, tracks, 12 + 3 * k), (definite(700), under_max, under_min)[k % 3], (800, None)[k % 2], k % 2, k // 2 % 2))
 
 
 def random_fr(c):
@@ -794,10 +889,10 @@ def random_fr(c):
         items = random_items(r, tracks, r.choice((1, 2, 2, 3, 4, 5, 6)))
         constraint = (definite(r.randrange(0, 200)), under_min, under_max)[k // 3 % 3]
         inner = r.choice((None, 0, r.randrange(0, 300)))
-        c.add(f'{k}', sheet(tracks, items, constraint, inner, r.randrange(2)), places=len(tracks) + r.choice((0, 0, 1)))
+        c.add(f'{k}', sheet(tracks, items, constraint, inner, r.randrange(2), r.randrange(2)), places=len(tracks) + r.choice((0, 0, 1)))
     for k in range(6):
         tracks = random_tracks(r, 20 + 5 * k, 6)
-        c.add(f'large {k}', sheet(tracks, random_items(r, tracks, 12 + 4 * k), (definite(900), under_max, under_min)[k % 3], (None, 1_000)[k % 2], k % 2))
+        c.add(f'large {k}', sheet(tracks, random_items(r, tracks, 12 + 4 * k), (definite(900), under_max, under_min)[k % 3], (None, 1_000)[k % 2], k % 2, k // 2 % 2))
 
 
 def random_limits(c):
@@ -853,12 +948,23 @@ def examples():
         item(0, 1, 32, 38, 58),
         item(2, 3, 190, 204, 236),
     ]
+    line = (fixed(2), fixed(2))
+    rows = [(auto, auto), line, (fixed(0), fr(1_000)), line, (fixed(0), fr(1_000)), line, (fixed(0), fr(2_000)), line, (auto, max_content)]
+    heights = [
+        item(0, 1, 14, 14, 28),
+        item(2, 1, 9, 9, 18),
+        item(4, 1, 9, 9, 20),
+        item(6, 1, 9, 18, 27),
+        item(2, 3, 12, 24, 50),
+        item(8, 1, 7, 7, 7),
+    ]
     lacking = sheet([(auto, auto)], [item(0, 1, 30, None, 60)])
     return {
         'w12': W12,
         'tariff': sheet(columns, fares, definite(320), 320),
         'tariff_narrow': sheet(columns, fares, definite(150), 150),
         'day_pass': sheet(days, passes, definite(260), 260),
+        'rows': sheet(rows, heights, under_min, None, axis=BLOCK),
         'lacking': lacking,
     }
 
@@ -890,7 +996,7 @@ def write_examples(root):
     # The reader's own run: every example, W12 on its standard input too, the longest sheet, and that with a byte more.
     run = dict(examples(), longest=longest(), longest_and_one=longest() + bytes(1))
     assert len(run['longest']) == LONGEST
-    words = ['tariff.sheet', 'tariff_narrow.sheet', 'day_pass.sheet', 'lacking.sheet', '-', 'longest.sheet', 'longest_and_one.sheet', '--', 'w12.sheet']
+    words = ['tariff.sheet', 'tariff_narrow.sheet', 'day_pass.sheet', 'rows.sheet', 'lacking.sheet', '-', 'longest.sheet', 'longest_and_one.sheet', '--', 'w12.sheet']
     for name, data in run.items():
         write(f'crates/reader/data/{name}.sheet', data)
     write('crates/reader/stdin', W12)
@@ -920,6 +1026,8 @@ def main():
         across_fr,
         flexible_across,
         across_kinds,
+        axes,
+        without_axis,
         overfull,
         many,
         random_boards,

@@ -5,7 +5,8 @@ comes first. A board is worked out step by step as the paper tells it; every fil
 reach, every share by factor to the exact parts, every fr search to a second way of finding fr, and the finished board to what
 must hold of it.
 
-11 is retired: an item may cross fr tracks with any span. Where the paper leaves a choice, it is read so:
+11 is retired: an item may cross fr tracks with any span. The space ends with an axis byte, 0 inline or 1 block. Where the paper leaves a
+choice, it is read so:
 
 - The growth limit answered is the one after step 4: steps 5 to 7 change sizes and leave it.
 - 7 looks at every number that is given, also at those of items that are not measured. Items not measured take no further part.
@@ -22,7 +23,9 @@ must hold of it.
 - 'Both these shares' are the two shares of growth limits. In the second a fit-content track's present size is its size and what
   the first share gave it, so that the room of both together is what the larger of argument and size leaves.
 - A track is infinitely growable in (f) of the batch in whose (e) its limit came, and not in later batches.
-- Step 5 reads the constraint, steps 6 and 7 the expansion space: a given inner size makes that definite under any constraint.
+- Steps 2, 3 and 5 read the constraint as it is given, steps 6 and 7 the expansion space: a given inner size makes that definite under
+  any constraint and in both axes. Only without one does the axis have a say, and only under min-content: in the block axis the fr tracks
+  grow as under max-content. Nothing else asks for the axis.
 - Rounds are those of step 5's fill: 0 where there is nothing to fill, under min-content and under max-content.
 - 'Each item on an fr track' means each that crosses one, of any span; it is always measured. Its search holds the other tracks that
   it spans at their bases of that moment, and looks at no track outside.
@@ -37,10 +40,11 @@ from case_text import Front, Refused
 MOST_TRACKS, MOST_ITEMS = 256, 1_024
 SIZE_LIMIT, SPACE_LIMIT, FACTOR_LIMIT = 65_535, 16_777_215, 100_000
 LARGEST = 4_294_967_295
-LONGEST = 2 + 11 + 2 + 10 * MOST_TRACKS + 2 + 19 * MOST_ITEMS
+LONGEST = 2 + 12 + 2 + 10 * MOST_TRACKS + 2 + 19 * MOST_ITEMS
 BOARD, REFUSAL = 0, 1
 
 DEFINITE, UNDER_MIN, UNDER_MAX = 1, 2, 3
+INLINE, BLOCK = 0, 1
 FIXED, AUTO, MIN, MAX, FIT, FR = 1, 2, 3, 4, 5, 6
 INTRINSIC_MINIMA, INTRINSIC_MAXIMA = (AUTO, MIN, MAX), (AUTO, MIN, MAX, FIT)
 
@@ -49,8 +53,10 @@ CONSTRAINTS = {DEFINITE: True, UNDER_MIN: False, UNDER_MAX: False}
 GIVEN = {0: False, 1: True}
 MINIMA = {FIXED: True, AUTO: False, MIN: False, MAX: False}
 MAXIMA = {FIXED: True, AUTO: False, MIN: False, MAX: False, FIT: True, FR: True}
+# What a byte may be that stands alone: stretch, and the axis.
+STRETCHES, AXES = (0, 1), (INLINE, BLOCK)
 
-Sheet = collections.namedtuple('Sheet', 'constraint inner stretch tracks items')
+Sheet = collections.namedtuple('Sheet', 'constraint inner stretch axis tracks items')
 Track = collections.namedtuple('Track', 'minimum maximum')
 Item = collections.namedtuple('Item', 'start span row')
 
@@ -82,11 +88,14 @@ class Bytes(Front):
             raise Refused(5, self.at - 4)
         return tag, number
 
-    def space(self):
-        constraint, inner, stretch = self.tagged(CONSTRAINTS), self.tagged(GIVEN), self.number(1)
-        if stretch > 1:
+    def marked(self, listed):
+        mark = self.number(1)
+        if mark not in listed:
             raise Refused(4, self.at - 1)
-        return constraint, inner, stretch
+        return mark
+
+    def space(self):
+        return self.tagged(CONSTRAINTS), self.tagged(GIVEN), self.marked(STRETCHES), self.marked(AXES)
 
     def track(self):
         return Track(self.tagged(MINIMA), self.tagged(MAXIMA))
@@ -101,19 +110,19 @@ ONE, TRACK_COUNTS, ITEM_COUNTS = range(1, 2), range(MOST_TRACKS + 1), range(MOST
 def sheet_in(data):
     """The sheet, or its refusal by 1 to 5."""
     b = Bytes(data)
-    (constraint, inner, stretch), = b.records(ONE, 11, b.space)
+    (constraint, inner, stretch, axis), = b.records(ONE, 12, b.space)
     tracks = b.records(TRACK_COUNTS, 10, b.track)
     items = b.records(ITEM_COUNTS, 19, b.item)
     if b.at < len(data):
         raise Refused(2, b.at)
-    return Sheet(constraint, inner, stretch, tracks, items)
+    return Sheet(constraint, inner, stretch, axis, tracks, items)
 
 
 def byte_faults(data):
     """Every fault of the bytes, each as the byte at which it shows, its number and its place: of what is not wholly there that
     byte is the first."""
     faults, at = [], 0
-    for allowed, head, tags, tail in ((ONE, 0, (CONSTRAINTS, GIVEN), 1), (TRACK_COUNTS, 0, (MINIMA, MAXIMA), 0), (ITEM_COUNTS, 4, (GIVEN,) * 3, 0)):
+    for allowed, head, tags, tail in ((ONE, 0, (CONSTRAINTS, GIVEN), 2), (TRACK_COUNTS, 0, (MINIMA, MAXIMA), 0), (ITEM_COUNTS, 4, (GIVEN,) * 3, 0)):
         if at + 2 > len(data):
             return faults + [(at, 1, len(data))]
         count = data[at] + 256 * data[at + 1]
@@ -130,9 +139,8 @@ def byte_faults(data):
                     faults.append((tag, 4, tag))
                 elif not listed[data[tag]] and data[tag + 1:tag + 5] != bytes(4):
                     faults.append((tag + 1, 5, tag + 1))
-            if tail and data[at + size - 1] > 1:
-                faults.append((at + size - 1, 4, at + size - 1))
             at += size
+            faults += [(mark, 4, mark) for mark in range(at - tail, at) if data[mark] > 1]
     if at < len(data):
         faults.append((at, 2, at))
     return faults
@@ -520,13 +528,14 @@ class Sizing:
         return None if self.inner is None else self.inner - sum(self.base)
 
     def flexible(self):
+        before = list(self.base)
         factor = {t: Fraction(self.argument[t], 1_000) for t in self.all if self.maximum[t] == FR}
         if self.inner is not None:
             if self.free() <= 0:
                 return
             others = [self.base[t] for t in self.all if t not in factor]
             fr = fr_search(self.inner, [(factor[t], self.base[t]) for t in factor], others)
-        elif self.constraint == UNDER_MIN:
+        elif self.constraint == UNDER_MIN and self.sheet.axis == INLINE:
             return
         else:
             fr = max([Fraction(0)] + [self.base[t] / max(Fraction(1), factor[t]) for t in factor])
@@ -540,6 +549,8 @@ class Sizing:
                 self.marks.add('fr of an item' if decides.span == 1 else 'fr of an item across several tracks')
         for t in factor:
             self.base[t] = max(self.base[t], factor[t] * fr // 1)
+        if self.constraint == UNDER_MIN and self.inner is None and self.base != before:
+            self.marks.add('fr grown under min-content in the block axis')
 
     def stretch(self):
         if self.sheet.stretch and self.inner is not None and self.free() > 0:

@@ -13,7 +13,7 @@ A case in the file, of reading:
     N bytes           the sheet, in hex
     N rows            the lent rows of tracks, before
     N rows            the lent rows of items, before
-    KIND A B          0 TRACKS ITEMS for a sheet, with the space's five numbers in the next line; 1 NUMBER PLACE for a refusal
+    KIND A B          0 TRACKS ITEMS for a sheet, with the space's six numbers in the next line; 1 NUMBER PLACE for a refusal
     N rows            the rows of tracks, after
     N rows            the rows of items, after
 
@@ -21,7 +21,7 @@ of writing:
 
     # NAME
     1
-    T N T N S         the space: constraint tag and number, inner size tag and number, stretch
+    T N T N S A       the space: constraint tag and number, inner size tag and number, stretch, axis
     N rows            tracks
     N rows            items
     N bytes           the lent bytes, before
@@ -52,6 +52,8 @@ GIVEN = {0: False, 1: True}
 MINIMUM = {1: True, 2: False, 3: False, 4: False}
 MAXIMUM = {1: True, 2: False, 3: False, 4: False, 5: True, 6: True}
 STRETCH = (0, 1)
+# inline, block
+AXIS = (0, 1)
 
 
 # ---- bytes, front to back
@@ -79,14 +81,16 @@ class Reader(Front):
             raise Refused(5, place)
         return [tag, number]
 
-    def space(self):
-        self.whole(11)
-        row = self.tagged(CONSTRAINT) + self.tagged(GIVEN)
+    def mark(self, listed):
         place = self.at
-        stretch = self.number(1)
-        if stretch not in STRETCH:
+        mark = self.number(1)
+        if mark not in listed:
             raise Refused(4, place)
-        return row + [stretch]
+        return [mark]
+
+    def space(self):
+        self.whole(12)
+        return self.tagged(CONSTRAINT) + self.tagged(GIVEN) + self.mark(STRETCH) + self.mark(AXIS)
 
     def track(self):
         self.whole(10)
@@ -116,7 +120,7 @@ def sheet_in(data):
 def end_of(data):
     """Where the sheet at the front ends: its three counts fix it, and nothing else is looked at."""
     reader = Reader(data)
-    for allowed, size in ((ONE, 11), (TRACK_COUNTS, 10), (ITEM_COUNTS, 19)):
+    for allowed, size in ((ONE, 12), (TRACK_COUNTS, 10), (ITEM_COUNTS, 19)):
         count = reader.count(allowed)
         reader.at += size * count
     return reader.at
@@ -134,7 +138,7 @@ def tagged(tag, number):
 
 
 def space_bytes(row):
-    return tagged(row[0], row[1]) + tagged(row[2], row[3]) + bytes([row[4]])
+    return tagged(row[0], row[1]) + tagged(row[2], row[3]) + bytes(row[4:])
 
 
 def track_bytes(row):
@@ -164,7 +168,7 @@ def rows_refusal(tracks, items):
                 raise Refused(5, place + 1)
             place += 5
 
-    place = 2 + 11
+    place = 2 + 12
     if len(tracks) > MOST_TRACKS:
         raise Refused(3, place)
     place += 2
@@ -193,7 +197,7 @@ def all_faults(data):
         if count not in allowed:
             return faults + [(at, 3, at)]
         at += 2
-        size = skip + 5 * len(tags) + (allowed is ONE)
+        size = skip + 5 * len(tags) + 2 * (allowed is ONE)
         for record in range(at, at + size * count, size):
             if record + size > len(data):
                 faults.append((record, 1, len(data)))
@@ -204,8 +208,8 @@ def all_faults(data):
                     faults.append((place, 4, place))
                 elif not listed[data[place]] and any(data[place + 1:place + 5]):
                     faults.append((place + 1, 5, place + 1))
-            if allowed is ONE and data[record + 10] > 1:
-                faults.append((record + 10, 4, record + 10))
+            if allowed is ONE:
+                faults += [(mark, 4, mark) for mark in (record + 10, record + 11) if data[mark] > 1]
         at += size * count
     if at < len(data):
         faults.append((at, 2, at))
@@ -231,7 +235,7 @@ def groups(data):
     """The bytes of a sheet as groups: counts, records, and in a sheet of few records their parts."""
     found = []
     at = 0
-    for parts in ((5, 5, 1), (5, 5), (2, 2, 5, 5, 5)):
+    for parts in ((5, 5, 1, 1), (5, 5), (2, 2, 5, 5, 5)):
         count = int.from_bytes(data[at:at + 2], 'little')
         found.append(data[at:at + 2])
         at += 2
@@ -343,14 +347,14 @@ class Cases:
 
 # ---- the cases
 
-SPACE = [1, 100, 1, 100, 0]
+SPACE = [1, 100, 1, 100, 0, 0]
 TRACK = [2, 0, 1, 0]
 ITEM = [65_536, 1, 30, 1, 30, 1, 30]
 W12 = bytes.fromhex(
-    '0100 0164000000 0164000000 00 0100 0200000000 0100000000 0100 0000 0100 011E000000 011E000000 011E000000'
+    '0100 0164000000 0164000000 00 00 0100 0200000000 0100000000 0100 0000 0100 011E000000 011E000000 011E000000'
 )
 # Where the counts of its tracks and of its items stand, and where it ends: places behind the space are told from these.
-TRACKS_AT = 2 + 11
+TRACKS_AT = 2 + 12
 ITEMS_AT = TRACKS_AT + 2 + 10
 W12_END = ITEMS_AT + 2 + 19
 VALUES = (0, 1, 2, 3, 4, 5, 6, 7, 255)
@@ -369,7 +373,7 @@ def with_byte(data, at, value):
 
 
 def paper(c):
-    assert W12_END == 46 and sheet_bytes(SPACE, [TRACK], [ITEM]) == W12
+    assert W12_END == 47 and sheet_bytes(SPACE, [TRACK], [ITEM]) == W12
     c.read('W12', W12, want=True)
     c.end('W12', W12, want=W12_END)
 
@@ -382,9 +386,14 @@ def truncations(c):
 
 
 def byte_edits(c):
+    """Each byte of W12 changed. The file has those of VALUES; every other value is held to the second derivation too."""
     for at in range(W12_END):
         for value in VALUES:
             c.read(f'W12, byte {at} is {value}', with_byte(W12, at, value))
+        for value in set(range(256)) - set(VALUES):
+            data = with_byte(W12, at, value)
+            faults = all_faults(data)
+            assert answer(sheet_in, data)[1] == (min(faults)[1:] if faults else None), (at, value)
 
 
 def rows_lent(c):
@@ -456,8 +465,8 @@ def stray_numbers(c):
 def bare_tags():
     """A sheet for each tag that carries no number, with the place of the number."""
     for tag in (2, 3):
-        yield f'constraint {tag}', sheet_bytes([tag, 0, 1, 100, 1], [TRACK], [ITEM]), 3
-    yield 'inner size 0', sheet_bytes([1, 100, 0, 0, 1], [TRACK], [ITEM]), 8
+        yield f'constraint {tag}', sheet_bytes([tag, 0, 1, 100, 1, 1], [TRACK], [ITEM]), 3
+    yield 'inner size 0', sheet_bytes([1, 100, 0, 0, 1, 0], [TRACK], [ITEM]), 8
     for tag in (2, 3, 4):
         yield f'minimum {tag}', sheet_bytes(SPACE, [track((tag, 0), (1, 7))], [ITEM]), TRACKS_AT + 3
     for tag in (2, 3, 4):
@@ -480,10 +489,11 @@ def kinds(c):
     for number in (0, 1, 65_536, LARGEST):
         for constraint in (1, 2, 3):
             for inner in (0, 1):
-                for stretch in (0, 1):
-                    space = [constraint, number * CONSTRAINT[constraint], inner, number * GIVEN[inner], stretch]
-                    if CONSTRAINT[constraint] or GIVEN[inner] or number == 0:
-                        c.read(f'space {" ".join(map(str, space))}', sheet_bytes(space, [TRACK], [ITEM]), want=True)
+                for stretch in STRETCH:
+                    for axis in AXIS:
+                        space = [constraint, number * CONSTRAINT[constraint], inner, number * GIVEN[inner], stretch, axis]
+                        if CONSTRAINT[constraint] or GIVEN[inner] or number == 0:
+                            c.read(f'space {" ".join(map(str, space))}', sheet_bytes(space, [TRACK], [ITEM]), want=True)
         tracks = [track((a, number * MINIMUM[a]), (b, number * MAXIMUM[b])) for a in MINIMUM for b in MAXIMUM]
         c.read(f'every pair of track kinds, with {number}', sheet_bytes(SPACE, tracks, [ITEM]), 24, 1, want=True)
         three = [(number * GIVEN[a], number * GIVEN[b], number * GIVEN[d], a, b, d) for a in (0, 1) for b in (0, 1) for d in (0, 1)]
@@ -496,7 +506,7 @@ def kinds(c):
         c.read(f'start {start}, span {span}', sheet_bytes(SPACE, [TRACK], [item((0, 0), (1, 1), (1, 2), start=start, span=span)]), want=True)
     tracks = [track((1, 0x04030201), (5, 0x08070605)), track((3, 0), (6, 0x0C0B0A09))]
     items = [item((1, 0x14131211), (0, 0), (1, 0x18171615), start=0x1A19, span=0x1C1B)]
-    c.read('every byte of a number another', sheet_bytes([1, 0x24232221, 1, 0x28272625, 1], tracks, items), want=True)
+    c.read('every byte of a number another', sheet_bytes([1, 0x24232221, 1, 0x28272625, 1, 0], tracks, items), want=True)
 
 
 def tags_not_listed(c):
@@ -504,6 +514,7 @@ def tags_not_listed(c):
         (2, 'constraint', CONSTRAINT),
         (7, 'inner size', GIVEN),
         (12, 'stretch', STRETCH),
+        (13, 'axis', AXIS),
         (TRACKS_AT + 2, 'minimum', MINIMUM),
         (TRACKS_AT + 7, 'maximum', MAXIMUM),
         (ITEMS_AT + 6, 'minimum contribution', GIVEN),
@@ -531,7 +542,11 @@ def which_fault(c):
     c.read('stray constraint number before inner size tag', edited((2, 2), (7, 9)), want=(5, 3))
     c.read('inner size tag before the stretch byte', edited((7, 9), (12, 9)), want=(4, 7))
     c.read('stray inner size before the stretch byte', edited((7, 0), (12, 2)), want=(5, 8))
-    c.read('stretch byte before the track count', edited((12, 2), (TRACKS_AT + 1, 255)), want=(4, 12))
+    c.read('stretch byte before the axis byte', edited((12, 2), (13, 2)), want=(4, 12))
+    c.read('inner size tag before the axis byte', edited((7, 9), (13, 255)), want=(4, 7))
+    c.read('stray inner size before the axis byte', edited((7, 0), (13, 2)), want=(5, 8))
+    c.read('axis byte before the track count', edited((13, 2), (TRACKS_AT + 1, 255)), want=(4, 13))
+    c.read('axis byte before a track', edited((13, 255), (TRACKS_AT + 2, 9)), want=(4, 13))
     c.read('track count before a track', edited((TRACKS_AT + 1, 255), (TRACKS_AT + 2, 9)), want=(3, TRACKS_AT))
     c.read('minimum tag before its number', edited((TRACKS_AT + 2, 0), (TRACKS_AT + 3, 1)), want=(4, TRACKS_AT + 2))
     c.read('stray minimum before maximum tag', edited((TRACKS_AT + 6, 1), (TRACKS_AT + 7, 9)), want=(5, TRACKS_AT + 3))
@@ -551,6 +566,9 @@ def which_fault(c):
     c.read('a whole space with a tag not listed, then nothing', edited((2, 9))[:TRACKS_AT], want=(4, 2))
     c.read('a stretch byte not listed, then nothing', edited((12, 7))[:TRACKS_AT], want=(4, 12))
     c.read('a stretch byte not listed, then half a count', edited((12, 7))[:TRACKS_AT + 1], want=(4, 12))
+    c.read('an axis byte not listed, then nothing', edited((13, 2))[:TRACKS_AT], want=(4, 13))
+    c.read('an axis byte not listed, then half a count', edited((13, 2))[:TRACKS_AT + 1], want=(4, 13))
+    c.read('a stretch byte not listed, and no axis byte', edited((12, 7))[:13], want=(1, 13))
     c.read('a track cut short, with a tag not listed', edited((TRACKS_AT + 2, 9))[:TRACKS_AT + 11], want=(1, TRACKS_AT + 11))
     c.read('a whole track with a tag not listed, then nothing', edited((TRACKS_AT + 2, 9))[:ITEMS_AT], want=(4, TRACKS_AT + 2))
     c.read('a second track cut short, the first at fault', edited((TRACKS_AT + 2, 9), data=two)[:TRACKS_AT + 17], want=(4, TRACKS_AT + 2))
@@ -569,6 +587,25 @@ def which_fault(c):
         c.read(f'3 before 6, {rows}', edited((ITEMS_AT + 1, 255)), tracks, items, want=(3, ITEMS_AT))
         c.read(f'4 before 6, {rows}', edited((ITEMS_AT + 16, 2)), tracks, items, want=(4, ITEMS_AT + 16))
         c.read(f'5 before 6, {rows}', edited((ITEMS_AT + 16, 0)), tracks, items, want=(5, ITEMS_AT + 17))
+
+
+def without_axis(c):
+    """Sheets whose space ends with the stretch byte, as it once did: the table refuses them like any other bytes."""
+
+    def earlier(tracks, items):
+        data = sheet_bytes(SPACE, tracks, items)
+        return data[:13] + data[14:]
+
+    # the count of the tracks is taken for the axis, and what follows it for the count
+    c.read('W12 without its axis byte', earlier([TRACK], [ITEM]), want=(3, 14))
+    c.read('no axis byte, no tracks and no items', earlier([], []), want=(1, 17))
+    c.read('no axis byte, 1 track of fixed minimum', earlier([track((1, 7), (1, 7))], [ITEM]), 256, want=(4, 16))
+    c.read('no axis byte, 2 tracks', earlier([TRACK] * 2, [ITEM]), want=(4, 13))
+    c.read('no axis byte, 255 tracks', earlier([TRACK] * 255, [ITEM]), 255, want=(4, 13))
+    c.read('no axis byte, 256 tracks', earlier([TRACK] * 256, [ITEM]), 256, want=(3, 14))
+    c.end('W12 without its axis byte', earlier([TRACK], [ITEM]), want=(3, 14))
+    c.end('no axis byte, no tracks and no items', earlier([], []), want=(1, 17))
+    c.end('no axis byte, 2 tracks', earlier([TRACK] * 2, [ITEM]), want=(3, 14))
 
 
 def written_back(c):
@@ -698,7 +735,7 @@ def ends(c):
     c.end('2 tracks, of which 1 is there', W12[:TRACKS_AT] + u16(2) + W12[TRACKS_AT + 2:])
     c.end('200 tracks, of which 1 is there', W12[:TRACKS_AT] + u16(200) + W12[TRACKS_AT + 2:], want=(1, W12_END))
     c.end('300 items, of which 1 is there', W12[:ITEMS_AT] + u16(300) + W12[ITEMS_AT + 2:], want=ITEMS_AT + 2 + 300 * 19)
-    for at in (2, 7, 12, TRACKS_AT + 2, TRACKS_AT + 7, ITEMS_AT + 6, ITEMS_AT + 11, ITEMS_AT + 16):
+    for at in (2, 7, 12, 13, TRACKS_AT + 2, TRACKS_AT + 7, ITEMS_AT + 6, ITEMS_AT + 11, ITEMS_AT + 16):
         c.end(f'W12, tag at {at} not listed', with_byte(W12, at, 9), want=W12_END)
     c.end('W12, a stray number', with_byte(W12, TRACKS_AT + 3, 1), want=W12_END)
 
@@ -716,6 +753,7 @@ def main():
         kinds,
         tags_not_listed,
         which_fault,
+        without_axis,
         written_back,
         bytes_lent,
         rows_with_tags,

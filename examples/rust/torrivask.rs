@@ -12,9 +12,9 @@ pub struct Refusal {
 pub type Sizes = [u32; 2];
 
 /// The numbers of a space's row.
-pub const SPACE_NUMBERS: usize = 5;
+pub const SPACE_NUMBERS: usize = 6;
 
-/// Constraint tag and number, inner size tag and number, stretch.
+/// Constraint tag and number, inner size tag and number, stretch, axis (0 inline, 1 block).
 pub type SpaceRow = [u32; SPACE_NUMBERS];
 
 /// Minimum tag and number, maximum tag and number.

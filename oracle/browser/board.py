@@ -1,8 +1,9 @@
 """A board that both sides can lay out: as the lines of tools/sheet, as a sheet's bytes, and as the words of CSS.
 
-The space is definite and the inner size is the same number. A track is a minimum and a maximum, each a kind and its number (0 where the
-kind has none; an fr factor in thousandths). An item is start, span and its three contributions. A gutter, where there is one, stands
-between any two tracks: CSS has a gap for it, a sheet a fixed track.
+A board of columns has a definite space, and the inner size is the same number. A board of rows has a space of None: it lies along the block
+axis under min-content, without an inner size, and its items have a height, which is all three contributions. A track is a minimum and a
+maximum, each a kind and its number (0 where the kind has none; an fr factor in thousandths). An item is start, span and its three
+contributions. A gutter, where there is one, stands between any two tracks: CSS has a gap for it, a sheet a fixed track.
 """
 import collections
 import importlib.machinery
@@ -53,7 +54,8 @@ def lines(board):
     def word(end):
         return words[end[0]](end[1]) if end[0] in words else end[0]
 
-    found = [f'space definite {board.space} inner {board.space}' + ' stretch' * board.stretch]
+    space = 'min-content' if board.space is None else f'definite {board.space} inner {board.space}'
+    found = [f'space {space}' + ' stretch' * board.stretch + ' block' * (board.space is None)]
     found += [f'track {word(track.minimum)} {word(track.maximum)}' for track in board.tracks]
     return found + ['item ' + ' '.join(map(str, item)) for item in board.items]
 

@@ -1,6 +1,6 @@
 """Holds the reader's sizes against the browser's on random boards, and says which rules are behind each difference.
 
-    python3 oracle/browser/compare.py 2000 1      so many scaled boards and as many small ones, and the seed
+    python3 oracle/browser/compare.py 2000 1      so many scaled boards and as many small ones, of columns and of rows, and the seed
 
 Boards agree where every track is less than a dot apart. Ends with status 0 where, on every board, the known rules give the browser's sizes
 and the paper's the reader's; with 1 where they do not, and the board is printed; with 2 where something is missing.
@@ -61,8 +61,8 @@ def main():
     count, seed = ask('compare')
     print(f'seed {seed}, {version()}')
     faults = 0
-    for name in ('scaled', 'small'):
-        made = boards(count, seed, name == 'scaled')
+    for name in ('scaled', 'small', 'scaled row', 'small row'):
+        made = boards(count, seed, 'scaled' in name, 'row' in name)
         laid = [board for _, board in made]
         seen = Count()
         for (sort, board), browser, reader in zip(made, browser_sizes(laid), reader_sizes(laid), strict=True):

@@ -1,7 +1,8 @@
 """Boards as CSS Grid in headless Chromium: one page for many boards, and the sizes of their tracks.
 
-A dot is a CSS pixel. Chromium works in 64ths of one and writes sizes in six digits, so sizes stay below 100,000. All items stand in row 1.
-An item's three contributions are boxes: `min-width` is the minimum contribution, since an auto width leaves nothing else to take it
+A dot is a CSS pixel. Chromium works in 64ths of one and writes sizes in six digits, so sizes stay below 100,000. All items of a board of
+columns stand in row 1, and those of a board of rows, which has a min-content height, in column 1.
+An item's three contributions to columns are boxes: `min-width` is the minimum contribution, since an auto width leaves nothing else to take it
 from; its content is a line of inline blocks, the widest of which is the min-content contribution and all of which are the max-content one.
 Where min-content is 0, the content is a canvas of `max-width: 100%`, which by CSS may shrink to nothing.
 """
@@ -19,13 +20,16 @@ HEAD = """<!doctype html><meta charset="utf-8"><style>
 * { margin: 0; padding: 0; border: 0 }
 body { font-size: 0; line-height: 0 }
 .board { display: grid; align-items: start }
-.board > * { grid-row: 1 }
+.board > * { grid-row: 1; grid-column: 1 }
 b { display: inline-block; height: 1px }
 canvas { max-width: 100% }
 </style>
 """
 SCRIPT = """<pre id="sizes"></pre><script>
-const sizes = [...document.querySelectorAll('.board')].map(board => getComputedStyle(board).gridTemplateColumns)
+const sizes = [...document.querySelectorAll('.board')].map(board => {
+  const style = getComputedStyle(board)
+  return board.classList.contains('rows') ? style.gridTemplateRows : style.gridTemplateColumns
+})
 document.getElementById('sizes').textContent = JSON.stringify(sizes)
 </script>
 """
@@ -41,6 +45,18 @@ def boxes(item):
 
 
 def html(board):
+    return columns(board) if board.space is not None else rows(board)
+
+
+def rows(board):
+    align = 'stretch' if board.stretch else 'start'
+    gap = f'row-gap:{board.gutter}px;' if board.gutter is not None else ''
+    tracks = ' '.join(map(css_track, board.tracks))
+    items = ''.join(f'<div style="grid-row:{item.start + 1}/span {item.span};height:{item.max_content}px"></div>' for item in board.items)
+    return f'<div class="board rows" style="height:min-content;align-content:{align};{gap}grid-template-rows:{tracks}">{items}</div>\n'
+
+
+def columns(board):
     align = 'stretch' if board.stretch else 'start'
     gap = f'column-gap:{board.gutter}px;' if board.gutter is not None else ''
     tracks = ' '.join(map(css_track, board.tracks))

@@ -1,4 +1,5 @@
-"""The build paper's sizing under a definite space, step by step and exact, with some of its rules as switches.
+"""The build paper's sizing, step by step and exact, with some of its rules as switches: of columns under a definite space, and of rows under
+min-content without an inner size, whose items have one number for all three contributions.
 
 `sizes(board, otherwise)` takes the rules that `otherwise` names in their other reading; with none it must give the reader's sizes.
 DIFFERENT has the rules that the browser is known to take otherwise, SHARED some that it takes as the paper does; both say what the
@@ -15,8 +16,10 @@ DIFFERENT = {
     'limit of none': 'a limit of none becomes base plus increase for every track that an item affects, also where the increase is 0',
     'fit-content room of bases': 'the room of a fit-content base that has no limit yet is not cut to the argument',
     'fit-content beyond limits': 'what remains of a base share goes to fit-content tracks too',
+    'rows at min-content': 'rows without a height grow to their limits in step 5, as under max-content',
 }
 SHARED = {
+    'fr rows open': 'fr rows without a height stay shut under min-content, as fr columns do',
     'fit-content limit in shares': 'a fit-content limit has room beyond its argument',
     'infinitely growable': 'no limit is infinitely growable in (f)',
     'largest increase': 'the increases that items give a track add up',
@@ -204,29 +207,45 @@ class Sizing:
     # steps 5 to 7
 
     def free(self):
-        return max(0, self.board.space - sum(self.base))
+        """None in rows, which have no definite space."""
+        return None if self.board.space is None else max(0, self.board.space - sum(self.base))
 
     def maximise(self):
+        if self.free() is None:
+            if 'rows at min-content' in self.otherwise:
+                self.base = list(self.limit)
+            return
         gains, _ = self.fill(self.free(), [self.room(t) for t in self.all])
         self.base = [base + gain for base, gain in zip(self.base, gains)]
 
     def flexible(self):
         factor = {t: Fraction(self.argument[t], 1000) for t in self.all if self.maximum[t] == FR}
-        if self.free() == 0:
+        if self.free() == 0 or (self.free() is None and 'fr rows open' in self.otherwise):
             return
-        held = set(self.all) - set(factor)
-        while True:
-            rest = [t for t in factor if t not in held]
-            fr = max(0, self.board.space - sum(self.base[t] for t in held)) / max(Fraction(1), sum(factor[t] for t in rest))
-            below = {t for t in rest if factor[t] * fr < self.base[t]}
-            if not below:
-                break
-            held |= below
+        if self.free() is not None:
+            fr = self.search(self.board.space, self.all, factor)
+        else:
+            across = [item for item in self.items if self.crosses_fr(item)]
+            fr = max([Fraction(0)] + [Fraction(self.base[t]) / max(Fraction(1), factor[t]) for t in factor]
+                     + [self.search(item.max_content, spanned(item), factor) for item in across])
         for t in factor:
             share = factor[t] * fr
             self.base[t] = max(self.base[t], share if 'fr rounded down' in self.otherwise else share // 1)
 
+    def search(self, space, tracks, factor):
+        """fr in so much space, over these tracks."""
+        held = set(tracks) - set(factor)
+        while True:
+            rest = [t for t in tracks if t not in held]
+            fr = max(0, space - sum(self.base[t] for t in held)) / max(Fraction(1), sum(factor[t] for t in rest))
+            below = {t for t in rest if factor[t] * fr < self.base[t]}
+            if not below:
+                return fr
+            held |= below
+
     def stretch(self):
+        if self.free() is None:
+            return
         autos = [t for t in self.all if self.maximum[t] == AUTO and self.board.stretch]
         for t, gain in zip(autos, self.fill(self.free(), [None] * len(autos))[0]):
             self.base[t] += gain

@@ -1,6 +1,6 @@
 """The smallest board found for each rule that the browser takes otherwise: the lines of its sheet, and both answers.
 
-    python3 oracle/browser/smallest.py 3000 3      looks among so many scaled and small boards of this seed
+    python3 oracle/browser/smallest.py 3000 3      looks among so many scaled and small boards of this seed, of columns and of rows
 
 From boards that differ it goes down step by step: a track or an item less, a plainer kind, a smaller number, as long as that one rule is
 behind the difference. A rule of rounding shows in a part of a dot; any other must make a whole dot at least. On the way the browser's
@@ -25,7 +25,7 @@ def weight(board):
     """What is smaller: records first, then what they span, then what is not plainly auto or 1fr, then dots."""
     ends = [end for track in board.tracks for end in track]
     records, spans = len(board.tracks) + len(board.items), sum(item.span for item in board.items)
-    dots = board.space + sum(number for kind, number in ends if kind != FR) + sum(sum(item[2:]) for item in board.items)
+    dots = (board.space or 0) + sum(number for kind, number in ends if kind != FR) + sum(sum(item[2:]) for item in board.items)
     extras = sum((kind != AUTO) + (kind == FR and number != 1000) for kind, number in ends) + board.stretch + (board.gutter is not None)
     return records, spans, extras, dots, lines(board)
 
@@ -43,7 +43,7 @@ def without_track(board, t):
 def without_gutters(board):
     """Without them, and without their dots."""
     dots = board.gutter * (len(board.tracks) - 1)
-    return board._replace(gutter=None, space=max(0, board.space - dots))
+    return board._replace(gutter=None, space=None if board.space is None else max(0, board.space - dots))
 
 
 def less(number):
@@ -71,6 +71,8 @@ def smaller_items(item):
     for contribution in item._fields[2:]:
         for number in less(getattr(item, contribution)):
             yield item._replace(**{contribution: number})
+    for number in less(item.max_content):
+        yield item._replace(**dict.fromkeys(item._fields[2:], number))
     if item.span > 1:
         yield item._replace(span=item.span - 1)
         yield item._replace(start=item.start + 1, span=item.span - 1)
@@ -81,7 +83,7 @@ def in_units(board):
     def size(end):
         return end if end[0] == FR else (end[0], end[1] // UNIT)
     return board._replace(
-        space=board.space // UNIT, gutter=board.gutter and board.gutter // UNIT,
+        space=board.space and board.space // UNIT, gutter=board.gutter and board.gutter // UNIT,
         tracks=[Track(size(track.minimum), size(track.maximum)) for track in board.tracks],
         items=[item._replace(**{name: getattr(item, name) // UNIT for name in item._fields[2:]}) for item in board.items],
     )
@@ -89,7 +91,7 @@ def in_units(board):
 
 def candidates(board):
     """Boards one step smaller."""
-    if board.space >= UNIT:
+    if max([board.space or 0] + [item.max_content for item in board.items]) >= UNIT:
         yield in_units(board)
     for t in range(len(board.tracks) * (len(board.tracks) > 1)):
         yield without_track(board, t)
@@ -101,7 +103,7 @@ def candidates(board):
     for t, track in enumerate(board.tracks):
         for smaller in smaller_tracks(track):
             yield board._replace(tracks=board.tracks[:t] + [smaller] + board.tracks[t + 1:])
-    for space in less(board.space):
+    for space in less(board.space or 0):
         yield board._replace(space=space)
     yield board._replace(stretch=False)
     if board.gutter is not None:
@@ -109,9 +111,10 @@ def candidates(board):
 
 
 def can_be_laid_out(board):
-    """Whether the sheet is accepted and CSS can write it."""
+    """Whether the sheet is accepted and CSS can write it: in rows an item has one number."""
     rising = all(item.minimum <= item.min_content <= item.max_content for item in board.items)
-    return rising and all(track.maximum[0] != FIT or track.minimum[0] == AUTO for track in board.tracks)
+    level = board.space is not None or all(item.minimum == item.max_content for item in board.items)
+    return rising and level and all(track.maximum[0] != FIT or track.minimum[0] == AUTO for track in board.tracks)
 
 
 def shows(rule, board, browser):
@@ -136,7 +139,7 @@ def shrunk(rule, board):
 
 def main():
     count, seed = ask('smallest')
-    every = [board for scaled in (True, False) for _, board in boards(count, seed, scaled)]
+    every = [board for rows in (False, True) for scaled in (True, False) for _, board in boards(count, seed, scaled, rows)]
     for rule, other in DIFFERENT.items():
         print(f'{rule}: {other}')
         starts = sorted((board for board in every if shows_as_known(rule, board)), key=weight)[:STARTS]

@@ -53,8 +53,7 @@ struct Run {
 }
 
 impl Run {
-    fn new(seed: u64, index: u64, counters: &mut [Counters; 5]) -> Run {
-        let input = inputs::call(seed, index);
+    fn new(input: Call, counters: &mut [Counters; 5]) -> Run {
         let mut left = [input.clone(), input.clone()];
         let counters = &mut counters[input.number()];
         let returned = [library(&mut left[0]), plain(&mut left[1], counters)];
@@ -76,24 +75,34 @@ impl Run {
         differences
     }
 
-    fn print_input(&self, seed: u64, index: u64) {
+    fn print_input(&self, which: &str) {
         let name = NAMES[self.input.number()];
-        println!("{name}, --one {seed} {index}");
+        println!("{name}, {which}");
         self.input.print();
+    }
+
+    /// Whether both sides left the same; else the input and the differences are printed.
+    fn is_same(&self, which: &str) -> bool {
+        let differences = self.differences();
+        if !differences.is_empty() {
+            self.print_input(which);
+            println!("the library differs from the plain Rust:");
+            println!("  {}", differences.join("\n  "));
+        }
+        differences.is_empty()
     }
 }
 
 /// Runs all inputs, and says whether all came out the same and everything was reached.
 fn compare(count: u64, seed: u64) -> bool {
     println!("{count} inputs, seed {seed}; compare --one {seed} INDEX runs one of them again");
+    if !compare_w12(seed) {
+        return false;
+    }
     let mut counters = AIMS.map(|aims| Counters::new(&aims));
     for index in 0..count {
-        let run = Run::new(seed, index, &mut counters);
-        let differences = run.differences();
-        if !differences.is_empty() {
-            run.print_input(seed, index);
-            println!("the library differs from the plain Rust:");
-            println!("  {}", differences.join("\n  "));
+        let run = Run::new(inputs::call(seed, index), &mut counters);
+        if !run.is_same(&format!("--one {seed} {index}")) {
             return false;
         }
     }
@@ -106,10 +115,25 @@ fn compare(count: u64, seed: u64) -> bool {
     nevers == 0
 }
 
+/// Runs every call on W12 cut short and with one byte changed; what they reach is not counted.
+fn compare_w12(seed: u64) -> bool {
+    let mut counters = AIMS.map(|aims| Counters::new(&aims));
+    let calls = inputs::made_of_w12(seed);
+    let count = calls.len();
+    for call in calls {
+        if !Run::new(call, &mut counters).is_same("made of W12") {
+            return false;
+        }
+    }
+    println!("{count} calls on W12 cut short or with a byte changed compared, 0 different");
+    true
+}
+
 /// One input with all that both sides leave.
 fn show(seed: u64, index: u64) -> bool {
-    let run = Run::new(seed, index, &mut AIMS.map(|aims| Counters::new(&aims)));
-    run.print_input(seed, index);
+    let mut counters = AIMS.map(|aims| Counters::new(&aims));
+    let run = Run::new(inputs::call(seed, index), &mut counters);
+    run.print_input(&format!("--one {seed} {index}"));
     for (side, (returned, left)) in ["library", "plain Rust"]
         .iter()
         .zip(run.returned.iter().zip(&run.left))

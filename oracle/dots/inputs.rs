@@ -3,7 +3,7 @@
 use crate::calls::Call;
 use crate::lent::{Lent, Value};
 use crate::random::Random;
-use dots::kinds::{Constraint, Item, Maximum, Minimum, Sheet, Space, Track};
+use dots::kinds::{Axis, Constraint, Item, Maximum, Minimum, Sheet, Space, Track};
 use dots::sheet::{self, ItemRow, SpaceRow, TrackRow};
 
 /// Half of all inputs are boards.
@@ -48,8 +48,13 @@ fn board_call(random: &mut Random) -> Call {
         sizes = random.pick(&[0, sheet.tracks.len().saturating_sub(1)]);
     }
     let bytes = sheet_bytes(random, &sheet, fate >= 80);
+    board_of(random, &bytes, sizes)
+}
+
+/// The board of these bytes, with so many sizes lent.
+fn board_of(random: &mut Random, bytes: &[u8], sizes: usize) -> Call {
     Call::Board {
-        sheet: Lent::of(random, &bytes),
+        sheet: Lent::of(random, bytes),
         sizes: Lent::blank(random, sizes),
         tracks: blank(random),
         definite: marks(random, 1, 50),
@@ -68,9 +73,14 @@ fn read_call(random: &mut Random) -> Call {
         1..=5 => count,
         _ => count + random.pick(&[1, 7]),
     };
-    let [tracks, items] = [sheet.tracks.len(), sheet.items.len()].map(&mut rows);
+    let rows = [sheet.tracks.len(), sheet.items.len()].map(&mut rows);
+    read_of(random, &bytes, rows)
+}
+
+/// Reading these bytes, with so many rows lent for tracks and for items.
+fn read_of(random: &mut Random, bytes: &[u8], [tracks, items]: [usize; 2]) -> Call {
     Call::Read {
-        sheet: Lent::of(random, &bytes),
+        sheet: Lent::of(random, bytes),
         space: blank(random),
         tracks: Lent::blank(random, tracks),
         items: Lent::blank(random, items),
@@ -78,6 +88,30 @@ fn read_call(random: &mut Random) -> Call {
         item_count: blank(random),
         place: blank(random),
     }
+}
+
+/// The calls that take a sheet's bytes, on every sheet that W12 becomes where it is cut short or one of its bytes is another. What is lent
+/// is as many as it takes.
+pub fn made_of_w12(seed: u64) -> Vec<Call> {
+    let random = &mut Random::new(seed, 0);
+    let w12 = sheet::bytes_of(&w12());
+    let mut sheets: Vec<Vec<u8>> = (0..w12.len())
+        .map(|length| w12[..length].to_vec())
+        .collect();
+    for at in 0..w12.len() {
+        for value in 0..=255 {
+            let mut sheet = w12.clone();
+            sheet[at] = value;
+            sheets.push(sheet);
+        }
+    }
+    let mut calls = Vec::with_capacity(3 * sheets.len());
+    for sheet in sheets {
+        calls.push(board_of(random, &sheet, 1));
+        calls.push(read_of(random, &sheet, [1, 1]));
+        calls.push(end_of(random, &sheet));
+    }
+    calls
 }
 
 /// A sheet, whole or damaged, alone or the first of a run.
@@ -89,8 +123,12 @@ fn end_call(random: &mut Random) -> Call {
         let next = sound_sheet(random);
         bytes.extend(sheet::bytes_of(&next));
     }
+    end_of(random, &bytes)
+}
+
+fn end_of(random: &mut Random, bytes: &[u8]) -> Call {
     Call::End {
-        bytes: Lent::of(random, &bytes),
+        bytes: Lent::of(random, bytes),
         end: blank(random),
         place: blank(random),
     }
@@ -264,6 +302,7 @@ fn sound_sheet(random: &mut Random) -> Sheet {
             constraint,
             inner,
             stretch: random.percent(50),
+            axis: random.pick(&[Axis::Inline, Axis::Block]),
         },
         tracks,
         items,
@@ -495,8 +534,8 @@ fn damage(random: &mut Random, sheet: &Sheet, bytes: &mut Vec<u8>) {
         }
         5 | 6 => {
             let mut place = random.pick(&tags);
-            if random.percent(10) {
-                place = 12; // the stretch byte
+            if random.percent(15) {
+                place = random.pick(&[sheet::STRETCH_AT, sheet::AXIS_AT]);
             }
             if let Some(tag) = bytes.get_mut(place) {
                 *tag = random.pick(&[0, 1, 2, 3, 4, 5, 6, 7, 255]);
@@ -572,6 +611,27 @@ const NO_ITEM: Item = Item {
     contributions: [None; 3],
 };
 
+/// The paper's example: a track from auto to 0, and an item that needs 30 dots.
+fn w12() -> Sheet {
+    Sheet {
+        space: Space {
+            constraint: Constraint::Definite(100),
+            inner: Some(100),
+            stretch: false,
+            axis: Axis::Inline,
+        },
+        tracks: vec![Track {
+            minimum: Minimum::Auto,
+            maximum: Maximum::Fixed(0),
+        }],
+        items: vec![Item {
+            start: 0,
+            span: 1,
+            contributions: [Some(30); 3],
+        }],
+    }
+}
+
 // Rows to write.
 
 fn write_call(random: &mut Random) -> Call {
@@ -603,7 +663,7 @@ fn write_call(random: &mut Random) -> Call {
     }
 }
 
-/// A tag or stretch number that is not listed, a number without use, or too many rows.
+/// A tag, stretch or axis number that is not listed, a number without use, or too many rows.
 fn spoil_rows(
     random: &mut Random,
     space: &mut SpaceRow,
@@ -623,8 +683,9 @@ fn spoil_rows(
     match random.between(0, 99) {
         0..=5 => tracks.resize(random.pick(&[257, 300]), [1, 0, 1, 0]),
         6..=11 => items.resize(random.pick(&[1025, 1100]), [65_536, 0, 0, 0, 0, 0, 0]),
-        12..=16 => space[4] = tag,
-        17..=39 => change(space, random.pick(&[0, 2])),
+        12..=15 => space[4] = tag,
+        16..=19 => space[5] = tag,
+        20..=39 => change(space, random.pick(&[0, 2])),
         40..=69 if !tracks.is_empty() => {
             let t = random.index(tracks.len());
             change(&mut tracks[t], random.pick(&[0, 2]));

@@ -21,11 +21,19 @@ pub enum Constraint {
     MaxContent,
 }
 
+/// What the tracks lie along: columns along the inline axis, rows along the block axis.
+#[derive(Clone, Copy, Debug, PartialEq, Eq)]
+pub enum Axis {
+    Inline,
+    Block,
+}
+
 #[derive(Clone, Copy, Debug, PartialEq, Eq)]
 pub struct Space {
     pub constraint: Constraint,
     pub inner: Option<u32>,
     pub stretch: bool,
+    pub axis: Axis,
 }
 
 impl Space {

@@ -2,7 +2,7 @@
 use crate::counters::Counters;
 use dots::board::{Board, Sizes};
 use dots::fill::Filled;
-use dots::kinds::{Constraint, Item, Maximum, Minimum, Refusal, Sheet, Space, Track};
+use dots::kinds::{Axis, Constraint, Item, Maximum, Minimum, Refusal, Sheet, Space, Track};
 use dots::sheet::{self, ItemRow, SpaceRow, TrackRow};
 
 /// The section that a byte stands in, where there are so many tracks.
@@ -27,6 +27,7 @@ fn tracks_told(bytes: &[u8]) -> usize {
 /// A refusal of 1 to 5, with its section.
 fn by_bytes(counters: &mut Counters, bytes: &[u8], refusal: Refusal) {
     let section = section_of_byte(tracks_told(bytes), refusal.place);
+    counters.reach_if(refusal == Refusal::at(4, sheet::AXIS_AT), "refused 4, axis");
     counters.reach(&match refusal.number {
         2 => "refused 2".to_string(),
         number => format!("refused {number}, {section}"),
@@ -145,6 +146,11 @@ fn count_space(counters: &mut Counters, space: &Space) {
     };
     counters.reach(name);
     counters.reach(&format!("{name}, inner size {inner}"));
+    let axis = match space.axis {
+        Axis::Inline => "inline",
+        Axis::Block => "block",
+    };
+    counters.reach(&format!("{axis}, {name}, inner size {inner}"));
     counters.reach_if(space.stretch, "stretch asked");
     let is_most =
         space.constraint == Constraint::Definite(Space::MOST) || space.inner == Some(Space::MOST);
@@ -313,9 +319,11 @@ pub fn by_write(
         Err(refusal) => {
             let section = section_of_byte(tracks.len(), refusal.place);
             counters.reach(&format!("refused {}, {section}", refusal.number));
-            let is_stretch = refusal == Refusal::at(4, 12);
+            let is_stretch = refusal == Refusal::at(4, sheet::STRETCH_AT);
             counters.reach_if(is_stretch, "refused 4, stretch");
-            let tags = [space[0], space[2], space[4]].into_iter();
+            let is_axis = refusal == Refusal::at(4, sheet::AXIS_AT);
+            counters.reach_if(is_axis, "refused 4, axis");
+            let tags = [space[0], space[2], space[4], space[5]].into_iter();
             let tags = tags.chain(tracks.iter().flat_map(|row| [row[0], row[2]]));
             let mut tags = tags.chain(items.iter().flat_map(|row| [row[1], row[3], row[5]]));
             let is_wide = refusal.number == 4 && tags.any(|tag| tag > 255);

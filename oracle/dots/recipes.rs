@@ -1,6 +1,6 @@
 //! What is timed: boards and fills by fixed recipes, the same in every run.
 use crate::random::Random;
-use dots::kinds::{Constraint, Item, Maximum, Minimum, Sheet, Space, Track};
+use dots::kinds::{Axis, Constraint, Item, Maximum, Minimum, Sheet, Space, Track};
 use dots::sheet::bytes_of;
 
 /// So many boards, three of each constraint, or so many fills: no call takes the path of the one before it.
@@ -87,6 +87,7 @@ impl Size {
                 },
                 inner: (b / 3 != 1).then_some(space),
                 stretch: b % 2 == 0,
+                axis: Axis::Inline,
             },
             tracks,
             items,

@@ -2,10 +2,10 @@
 //!
 //! A record stands between bytes and kinds as a row of numbers. A row can say what no kind can, a tag that is not listed or a
 //! number without use: so reader and writer find their faults in one place.
-use crate::kinds::{Constraint, Item, Maximum, Minimum, Refusal, Sheet, Space, Track};
+use crate::kinds::{Axis, Constraint, Item, Maximum, Minimum, Refusal, Sheet, Space, Track};
 
-/// Constraint tag and number, inner size tag and number, stretch.
-pub type SpaceRow = [u32; 5];
+/// Constraint tag and number, inner size tag and number, stretch, axis.
+pub type SpaceRow = [u32; 6];
 
 /// Minimum tag and number, maximum tag and number.
 pub type TrackRow = [u32; 4];
@@ -14,7 +14,7 @@ pub type TrackRow = [u32; 4];
 pub type ItemRow = [u32; 7];
 
 const COUNT_BYTES: usize = 2;
-const SPACE_BYTES: usize = 11;
+const SPACE_BYTES: usize = 12;
 const TRACK_BYTES: usize = 10;
 const ITEM_BYTES: usize = 19;
 /// A tag and its u32.
@@ -22,6 +22,9 @@ const TAGGED_BYTES: usize = 5;
 
 /// Where the record of the space stands, that of the first track, and behind so many tracks that of the first item.
 const SPACE_AT: usize = COUNT_BYTES;
+/// The bytes that stand alone in it.
+pub const STRETCH_AT: usize = SPACE_AT + 2 * TAGGED_BYTES;
+pub const AXIS_AT: usize = STRETCH_AT + 1;
 pub const TRACKS_AT: usize = SPACE_AT + SPACE_BYTES + COUNT_BYTES;
 
 pub fn items_at(tracks: usize) -> usize {
@@ -108,7 +111,7 @@ pub fn write(
     let mut pen = Pen { lent, at: 0 };
     pen.count(1);
     pen.tagged(&space_row[..4]);
-    pen.put([space_row[4] as u8]);
+    pen.put([space_row[4] as u8, space_row[5] as u8]);
     pen.count(tracks.len());
     for row in tracks {
         pen.tagged(row);
@@ -207,8 +210,8 @@ fn tagged(record: &[u8], at: usize) -> [u32; 2] {
 fn row_of_space(record: &[u8; SPACE_BYTES]) -> SpaceRow {
     let [constraint_tag, constraint] = tagged(record, 0);
     let [inner_tag, inner] = tagged(record, 5);
-    let stretch = u32::from(record[10]);
-    [constraint_tag, constraint, inner_tag, inner, stretch]
+    let [stretch, axis] = [record[10], record[11]].map(u32::from);
+    [constraint_tag, constraint, inner_tag, inner, stretch, axis]
 }
 
 fn row_of_track(record: &[u8; TRACK_BYTES]) -> TrackRow {
@@ -259,6 +262,14 @@ fn stretch(number: u32, at: usize) -> Result<bool, Refusal> {
     }
 }
 
+fn axis(number: u32, at: usize) -> Result<Axis, Refusal> {
+    match number {
+        0 => Ok(Axis::Inline),
+        1 => Ok(Axis::Block),
+        _ => Err(Refusal::at(4, at)),
+    }
+}
+
 fn minimum([tag, number]: [u32; 2], at: usize) -> Result<Minimum, Refusal> {
     match tag {
         1 => Ok(Minimum::Fixed(number)),
@@ -286,6 +297,7 @@ fn space(row: SpaceRow, at: usize) -> Result<Space, Refusal> {
         constraint: constraint([row[0], row[1]], at)?,
         inner: amount([row[2], row[3]], at + TAGGED_BYTES)?,
         stretch: stretch(row[4], at + 2 * TAGGED_BYTES)?,
+        axis: axis(row[5], at + 2 * TAGGED_BYTES + 1)?,
     })
 }
 
@@ -319,7 +331,11 @@ pub fn space_row(space: &Space) -> SpaceRow {
     };
     let [inner_tag, inner] = amount_row(space.inner);
     let stretch = u32::from(space.stretch);
-    [constraint_tag, constraint, inner_tag, inner, stretch]
+    let axis = match space.axis {
+        Axis::Inline => 0,
+        Axis::Block => 1,
+    };
+    [constraint_tag, constraint, inner_tag, inner, stretch, axis]
 }
 
 fn amount_row(amount: Option<u32>) -> [u32; 2] {

@@ -1,7 +1,7 @@
 //! Sizing in dots, step by step; step 3 has a file of its own.
 use crate::fill::{self, NO_LIMIT};
 use crate::fr::{self, Flexible, Fr};
-use crate::kinds::{Constraint, Item, Maximum, Minimum, Sheet, Space, Track};
+use crate::kinds::{Axis, Constraint, Item, Maximum, Minimum, Sheet, Space, Track};
 use crate::spans;
 use crate::watch::{Step, Watch};
 use std::ops::Range;
@@ -76,12 +76,14 @@ pub fn size(sheet: &Sheet, watch: &mut impl Watch) -> (Vec<Line>, Found) {
     (lines, Found { free, rounds })
 }
 
-/// The expansion space: the inner size if given; without it, definite becomes max-content and the others stay.
+/// The expansion space: the inner size if given; without it, definite becomes max-content and the others stay, but that in the block
+/// axis min-content becomes max-content too.
 pub fn expansion(space: &Space) -> Constraint {
-    match (space.inner, space.constraint) {
-        (Some(inner), _) => Constraint::Definite(inner),
-        (None, Constraint::MinContent) => Constraint::MinContent,
-        (None, Constraint::Definite(_) | Constraint::MaxContent) => Constraint::MaxContent,
+    match (space.inner, space.constraint, space.axis) {
+        (Some(inner), _, _) => Constraint::Definite(inner),
+        (None, Constraint::MinContent, Axis::Inline) => Constraint::MinContent,
+        (None, Constraint::MinContent, Axis::Block) => Constraint::MaxContent,
+        (None, Constraint::Definite(_) | Constraint::MaxContent, _) => Constraint::MaxContent,
     }
 }
 

@@ -225,6 +225,13 @@ impl Watcher<'_> {
             }
             Constraint::MaxContent => {
                 counters.reach_if(has_grown, "6: an fr track grows, max-content");
+                if has_grown && self.space.constraint == Constraint::MinContent {
+                    counters.reach("6: an fr track grows, min-content in the block axis");
+                    let below = |line: &Line| !line.track.is_fr() && line.limit > Some(line.base);
+                    let is_below = lines.iter().any(below);
+                    let name = "6: an fr track grows beside one that step 5 leaves below its limit";
+                    counters.reach_if(is_below, name);
+                }
                 match self.asked {
                     Some(1) if has_grown => {
                         counters.reach("6: fr tracks grow by an item in one track")

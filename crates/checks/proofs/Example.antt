@@ -8,6 +8,7 @@ use Rattle.sheet_kinds.specs.Kinds.{space, sheetTrack}
 use Rattle.kinds.specs.declared.amount.Amount.{Amount}
 use Rattle.kinds.specs.declared.amount.Amount.the-variants.{Absent, Given}
 use Rattle.kinds.specs.declared.constraint.Constraint.the-variants as constraint
+use Rattle.sheet_kinds.specs.declared.axis.Axis.the-variants.{Inline}
 use Rattle.sheet_kinds.specs.declared.space.Space.{Space}
 use Rattle.sheet_kinds.specs.declared.track.SheetMinimum.the-variants as minimum
 use Rattle.sheet_kinds.specs.declared.track.SheetMaximum.the-variants as maximum
@@ -18,7 +19,7 @@ use Rattle.checks.specs.Rule.{lowest, firstOf, recordFault}
 use mathlib.Core.Bool.{false}
 
 abbrev hundred : Space
-hundred = space (constraint.Definite 100) (Given 100) false
+hundred = space (constraint.Definite 100) (Given 100) false Inline
 
 abbrev auto : SheetTrack
 auto = sheetTrack minimum.Auto maximum.Auto

@@ -4,3 +4,5 @@
 pub mod Expansion
 -- a layout, case by case as the code goes
 pub mod LaidOut
+-- who reads the axis
+pub mod Axes

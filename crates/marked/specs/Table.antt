@@ -19,6 +19,7 @@ use Rattle.board.specs.Rule.{boardCall}
 use Rattle.kinds.specs.Kinds as kinds
 use Rattle.kinds.specs.declared.amount.Amount.the-variants.{Given}
 use Rattle.kinds.specs.declared.constraint.Constraint.the-variants.{Definite}
+use Rattle.sheet_kinds.specs.declared.axis.Axis.the-variants.{Inline}
 use Rattle.sheet_kinds.specs.declared.space.Space.{Space}
 use Rattle.sheet_kinds.specs.declared.track.SheetMinimum.the-variants as minimum
 use Rattle.sheet_kinds.specs.declared.track.SheetMaximum.the-variants as maximum
@@ -39,9 +40,9 @@ idle room = record { affected = false; room = room; gain = 0 }
 
 -- ---- Rows of the sizing
 
--- definite 100 with inner size 100
+-- definite 100 with inner size 100, in the inline axis
 abbrev pub hundred : Bool → Space
-hundred stretch = sheet.space (Definite 100) (Given 100) stretch
+hundred stretch = sheet.space (Definite 100) (Given 100) stretch Inline
 
 -- an fr track with this base, its factor in thousandths
 abbrev pub frTrack : ℕ → ℕ → SheetTrack
@@ -94,11 +95,11 @@ w10 = sizing (hundred false) (autoTrack ∷ autoTrack ∷ []) (across 11 11 20 �
 abbrev pub w11 : Example
 w11 = sizing (hundred true) (autoTrack ∷ autoTrack ∷ []) (across 11 11 20 ∷ []) ((51 ∷ 11 ∷ []) ∷ (49 ∷ 9 ∷ []) ∷ []) (pos 0) 2
 
--- the 46 bytes: the space, a track whose minimum is auto and whose maximum is fixed at 0, and an item of 30, 30, 30
+-- the 47 bytes: the space, a track whose minimum is auto and whose maximum is fixed at 0, and an item of 30, 30, 30
 abbrev pub w12 : Example
 w12 =
     board
-    (1 ∷ 0 ∷ 1 ∷ 100 ∷ 0 ∷ 0 ∷ 0 ∷ 1 ∷ 100 ∷ 0 ∷ 0 ∷ 0 ∷ 0 ∷ 1 ∷ 0 ∷ 2 ∷ 0 ∷ 0 ∷ 0 ∷ 0 ∷ 1 ∷ 0 ∷ 0 ∷ 0 ∷ 0
+    (1 ∷ 0 ∷ 1 ∷ 100 ∷ 0 ∷ 0 ∷ 0 ∷ 1 ∷ 100 ∷ 0 ∷ 0 ∷ 0 ∷ 0 ∷ 0 ∷ 1 ∷ 0 ∷ 2 ∷ 0 ∷ 0 ∷ 0 ∷ 0 ∷ 1 ∷ 0 ∷ 0 ∷ 0 ∷ 0
     ∷ 1 ∷ 0 ∷ 0 ∷ 0 ∷ 1 ∷ 0 ∷ 1 ∷ 30 ∷ 0 ∷ 0 ∷ 0 ∷ 1 ∷ 30 ∷ 0 ∷ 0 ∷ 0 ∷ 1 ∷ 30 ∷ 0 ∷ 0 ∷ 0 ∷ [])
     ((30 ∷ 30 ∷ []) ∷ [])
     (pos 70)

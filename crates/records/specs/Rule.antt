@@ -57,6 +57,10 @@ maximumTags = tags (1 ∷ 5 ∷ 6 ∷ []) (2 ∷ 3 ∷ 4 ∷ [])
 abbrev pub stretchBytes : List ℕ
 stretchBytes = 0 ∷ 1 ∷ []
 
+-- inline, block
+abbrev pub axisBytes : List ℕ
+axisBytes = 0 ∷ 1 ∷ []
+
 -- ---- Records, each of parts in fixed order
 
 pub data Part : Type 0 where
@@ -76,9 +80,9 @@ unfoldable pub recordSize : List Part → ℕ
 recordSize [] = 0
 recordSize (part ∷ parts) = partSize part + recordSize parts
 
--- constraint, inner size, stretch
+-- constraint, inner size, stretch, axis
 abbrev pub spaceRecord : List Part
-spaceRecord = tagged constraintTags ∷ tagged givenTags ∷ mark stretchBytes ∷ []
+spaceRecord = tagged constraintTags ∷ tagged givenTags ∷ mark stretchBytes ∷ mark axisBytes ∷ []
 
 -- minimum, maximum
 abbrev pub trackRecord : List Part

@@ -10,7 +10,7 @@ pub enum Refusal {
     BytesOver { at: usize },
     // A count that is not allowed: its first byte.
     Count { at: usize },
-    // A tag or a stretch byte that is not listed.
+    // A tag, a stretch byte or an axis byte that is not listed.
     Tag { at: usize },
     // A number without use that is not zero: its first byte.
     StrayNumber { at: usize },

@@ -3,12 +3,13 @@ use crate::refusal::Fault;
 use crate::refusal::Refusal;
 use kinds::Amount;
 use kinds::Constraint;
+use sheet_kinds::Axis;
 use sheet_kinds::SheetMaximum;
 use sheet_kinds::SheetMinimum;
 ghost use mathlib.Core.Path.{_≡_};
 ghost use Prim.Native.Nat.{_+_, _≤_};
 ghost use Rattle.laws.specs.Lists.{among};
-ghost use Rattle.records.specs.Rule.{constraintTags, givenTags, minimumTags, maximumTags, stretchBytes, unless, fault};
+ghost use Rattle.records.specs.Rule.{constraintTags, givenTags, minimumTags, maximumTags, stretchBytes, axisBytes, unless, fault};
 ghost use Rattle.records.specs.Answer.{faultOf, lastPlace, useOf, useFault};
 
 pub enum Use {
@@ -105,4 +106,11 @@ pub fn stretch_fault(byte: u32, at: usize) -> Fault
     ensures { λ r. ⌜ faultOf r ≡ unless (among stretchBytes byte) (fault 4 at) ⌝ }
 {
     Fault::unless(byte < 2, Refusal::Tag { at })
+}
+
+// What is wrong with an axis byte.
+pub fn axis_fault(byte: u32, at: usize) -> Fault
+    ensures { λ r. ⌜ faultOf r ≡ unless (among axisBytes byte) (fault 4 at) ⌝ }
+{
+    Fault::unless(byte <= Axis::BLOCK, Refusal::Tag { at })
 }

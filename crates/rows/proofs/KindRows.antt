@@ -8,7 +8,7 @@ use lib.ListN.{length, getD}
 use Rattle.laws.specs.Rows.{firsts, elements}
 use Rattle.laws.specs.Lists.{among}
 use Rattle.laws.specs.Faults.{fine-both, fine-test}
-use Rattle.records.specs.Rule.{Row, Part, constraintTags, givenTags, minimumTags, maximumTags, stretchBytes, spaceRecord, trackRecord, itemRecord, taggedFault, rowFault, fine, fault, unless}
+use Rattle.records.specs.Rule.{Row, Part, constraintTags, givenTags, minimumTags, maximumTags, stretchBytes, axisBytes, spaceRecord, trackRecord, itemRecord, taggedFault, rowFault, fine, fault, unless}
 use Rattle.rows.specs.Shapes.{width}
 use Rattle.kinds.specs.Kinds.{contribution, amountAt, itemRow, itemOf}
 use Rattle.sheet_kinds.specs.Kinds.{spaceRow, spaceOf, sheetTrackRow, sheetTrackOf}
@@ -18,7 +18,7 @@ use Rattle.sheet_kinds.specs.declared.track.SheetTrack.{SheetTrack}
 use Rattle.kinds.specs.declared.item.ContributionKind.the-variants as kind
 use Rattle.kinds.specs.declared.item.Item.{Item}
 use Rattle.records.proofs.LittleEndian.{mod-of-halves, div-of-halves}
-use Rattle.rows.proofs.TagCases.{constraint-said, constraint-kept, amount-said, amount-kept, minimum-said, minimum-kept, maximum-said, maximum-kept, bit-said, bit-kept}
+use Rattle.rows.proofs.TagCases.{constraint-said, constraint-kept, amount-said, amount-kept, minimum-said, minimum-kept, maximum-said, maximum-kept, bit-said, bit-kept, axis-said, axis-kept}
 
 -- a row of known length without fault has none where it is written out
 fine-elements : (parts : List Part) (n : ℕ) (row : Row) (p : ℕ) → length row ≡ n → rowFault parts row p ≡ fine → rowFault parts (firsts n (λ i. getD row i 0)) p ≡ fine
@@ -27,22 +27,24 @@ fine-elements parts n row p l e = subst (λ (r : Row). rowFault parts r p ≡ fi
 -- ---- the space
 
 pub space-of-row : (s : Space) → spaceOf (spaceRow s) ≡ s
-space-of-row s = rw (constraint-said (s .constraint) .0, amount-said (s .inner) .0, bit-said (s .stretch) .0)
+space-of-row s = rw (constraint-said (s .constraint) .0, amount-said (s .inner) .0, bit-said (s .stretch) .0, axis-said (s .axis) .0)
 
 pub space-fine : (s : Space) (p : ℕ) → rowFault spaceRecord (spaceRow s) p ≡ fine
 unfolding rowFault
-space-fine s p = rw (constraint-said (s .constraint) .1 p, amount-said (s .inner) .1 (p + 5), bit-said (s .stretch) .1)
+space-fine s p = rw (constraint-said (s .constraint) .1 p, amount-said (s .inner) .1 (p + 5), bit-said (s .stretch) .1, axis-said (s .axis) .1)
 
 pub row-of-space : (row : Row) (p : ℕ) → length row ≡ width spaceRecord → rowFault spaceRecord row p ≡ fine → spaceRow (spaceOf row) ≡ row
 unfolding rowFault width
 row-of-space row p l e =
-    let x = fine-both (taggedFault constraintTags (getD row 0 0) (getD row 1 0) p) _ (fine-elements spaceRecord 5 row p l e) in
+    let x = fine-both (taggedFault constraintTags (getD row 0 0) (getD row 1 0) p) _ (fine-elements spaceRecord 6 row p l e) in
     let y = fine-both (taggedFault givenTags (getD row 2 0) (getD row 3 0) (p + 5)) _ (x .1) in
     let z = fine-both (unless (among stretchBytes (getD row 4 0)) (fault 4 (p + 5 + 5))) _ (y .1) in
+    let w = fine-both (unless (among axisBytes (getD row 5 0)) (fault 4 (p + 5 + 5 + 1))) _ (z .1) in
     let constraint = constraint-kept _ _ p (x .0) in
     let inner = amount-kept _ _ (p + 5) (y .0) in
     let stretch = bit-kept _ (fine-test (among stretchBytes (getD row 4 0)) _ _ (z .0)) in
-    rw (constraint .0, constraint .1, inner .0, inner .1, stretch) (sym (elements 0 5 row l))
+    let axis = axis-kept _ (fine-test (among axisBytes (getD row 5 0)) _ _ (w .0)) in
+    rw (constraint .0, constraint .1, inner .0, inner .1, stretch, axis) (sym (elements 0 6 row l))
 
 -- ---- a track
 

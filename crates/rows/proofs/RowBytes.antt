@@ -14,9 +14,12 @@ abbrev pub pairBytes : Row → List ℕ
 pairBytes row = fourBytes (getD row 0 0)
 
 module _ (row : Row) where
-  pub bytes-of-space : length row ≡ 5 → (tagBytes row 0 ++ tagBytes row 2) ++ (getD row 4 0 ∷ []) ≡ rowBytes spaceRecord row
+  pub bytes-of-space : length row ≡ 6 → ((tagBytes row 0 ++ tagBytes row 2) ++ (getD row 4 0 ∷ [])) ++ (getD row 5 0 ∷ []) ≡ rowBytes spaceRecord row
   unfolding rowBytes
-  bytes-of-space e = append-assoc (tagBytes row 0) (tagBytes row 2) (getD row 4 0 ∷ []) ∙ ap (rowBytes spaceRecord) (sym (elements 0 5 row e))
+  bytes-of-space e =
+      append-assoc (tagBytes row 0 ++ tagBytes row 2) (getD row 4 0 ∷ []) (getD row 5 0 ∷ [])
+      ∙ append-assoc (tagBytes row 0) (tagBytes row 2) (getD row 4 0 ∷ getD row 5 0 ∷ [])
+      ∙ ap (rowBytes spaceRecord) (sym (elements 0 6 row e))
 
   pub bytes-of-track : length row ≡ 4 → tagBytes row 0 ++ tagBytes row 2 ≡ rowBytes trackRecord row
   unfolding rowBytes

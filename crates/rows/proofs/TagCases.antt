@@ -11,11 +11,13 @@ use Rattle.laws.specs.Marks.{bit}
 use Rattle.laws.specs.Tests.{true-or-false, never}
 use Rattle.laws.specs.Lists.{among}
 use Rattle.laws.specs.Faults.{fine-test}
-use Rattle.records.specs.Rule.{Tags, constraintTags, givenTags, minimumTags, maximumTags, stretchBytes, taggedFault, fine, fault, unless}
+use Rattle.records.specs.Rule.{Tags, constraintTags, givenTags, minimumTags, maximumTags, stretchBytes, axisBytes, taggedFault, fine, fault, unless}
 use Rattle.kinds.specs.Kinds.{amountTag, amountNumber, amountOf, constraintTag, constraintNumber, constraintOf}
-use Rattle.sheet_kinds.specs.Kinds.{sheetMinimumTag, sheetMinimumNumber, sheetMinimumOf, sheetMaximumTag, sheetMaximumNumber, sheetMaximumOf}
+use Rattle.sheet_kinds.specs.Kinds.{axisByte, axisOf, sheetMinimumTag, sheetMinimumNumber, sheetMinimumOf, sheetMaximumTag, sheetMaximumNumber, sheetMaximumOf}
 use Rattle.kinds.specs.declared.amount.Amount.the-variants.{Absent, Given}
 use Rattle.kinds.specs.declared.constraint.Constraint.the-variants as constraint
+use Rattle.sheet_kinds.specs.declared.axis.Axis.{Axis}
+use Rattle.sheet_kinds.specs.declared.axis.Axis.the-variants.{Inline, Block}
 use Rattle.sheet_kinds.specs.declared.track.SheetMinimum.the-variants as minimum
 use Rattle.sheet_kinds.specs.declared.track.SheetMaximum.the-variants as maximum
 
@@ -105,3 +107,13 @@ bit-said false = (refl, refl)
 
 pub bit-kept : (n : ℕ) → among stretchBytes n ≡ true → bit (eqb n 1) ≡ n
 bit-kept = each-in (λ n. bit (eqb n 1) ≡ n) stretchBytes (refl, (refl, tt))
+
+-- ---- the axis byte
+
+pub axis-said : (a : Axis) → (axisOf (axisByte a) ≡ a) × (among axisBytes (axisByte a) ≡ true)
+unfolding among
+axis-said Inline = (refl, refl)
+axis-said Block = (refl, refl)
+
+pub axis-kept : (n : ℕ) → among axisBytes n ≡ true → axisByte (axisOf n) ≡ n
+axis-kept = each-in (λ n. axisByte (axisOf n) ≡ n) axisBytes (refl, (refl, tt))

@@ -23,13 +23,13 @@ const MARK_SIZE: usize = 1;
 const PAIR_SIZE: usize = 4;
 
 // The bytes of each record.
-pub const SPACE_SIZE: usize = TAGGED_SIZE + TAGGED_SIZE + MARK_SIZE;
+pub const SPACE_SIZE: usize = TAGGED_SIZE + TAGGED_SIZE + MARK_SIZE + MARK_SIZE;
 
 pub const TRACK_SIZE: usize = TAGGED_SIZE + TAGGED_SIZE;
 
 pub const ITEM_SIZE: usize = PAIR_SIZE + TAGGED_SIZE + TAGGED_SIZE + TAGGED_SIZE;
 
-pub fn space_at(bytes: &[u8], at: usize) -> [u32; 5]
+pub fn space_at(bytes: &[u8], at: usize) -> [u32; 6]
     requires { ⌜ at + recordSize spaceRecord ≤ length (now bytes) ⌝ }
     ensures { λ r. ⌜ r ≡ rowAt spaceRecord (now (bytes .entry)) at ⌝ }
 {
@@ -41,6 +41,7 @@ pub fn space_at(bytes: &[u8], at: usize) -> [u32; 5]
         byte_at(bytes, inner),
         four_at(bytes, inner + 1),
         byte_at(bytes, stretch),
+        byte_at(bytes, stretch + MARK_SIZE),
     ]
 }
 
@@ -75,15 +76,17 @@ pub fn item_at(bytes: &[u8], at: usize) -> [u32; 7]
     ]
 }
 
-pub fn space_fault(row: [u32; 5], at: usize) -> Fault
+pub fn space_fault(row: [u32; 6], at: usize) -> Fault
     requires { ⌜ at + recordSize spaceRecord ≤ lastPlace ⌝ }
     ensures { λ r. ⌜ (faultOf r ≡ rowFault spaceRecord row at) × (length row ≡ width spaceRecord) ⌝ }
 {
     let inner_at = at + TAGGED_SIZE;
+    let stretch_at = inner_at + TAGGED_SIZE;
     let constraint = tags::constraint(row[0]).fault(row[1], at);
     let inner = tags::given(row[2]).fault(row[3], inner_at);
-    let stretch = tags::stretch_fault(row[4], inner_at + TAGGED_SIZE);
-    constraint.first(inner.first(stretch))
+    let stretch = tags::stretch_fault(row[4], stretch_at);
+    let axis = tags::axis_fault(row[5], stretch_at + MARK_SIZE);
+    constraint.first(inner.first(stretch.first(axis)))
 }
 
 pub fn track_fault(row: [u32; 4], at: usize) -> Fault
@@ -108,14 +111,16 @@ pub fn item_fault(row: [u32; 7], at: usize) -> Fault
 }
 
 // The rows that are put into bytes have no fault, so that each tag fits its byte.
-pub fn put_space(row: [u32; 5], bytes: &mut [u8], at: usize)
+pub fn put_space(row: [u32; 6], bytes: &mut [u8], at: usize)
     requires { ⌜ (at + recordSize spaceRecord ≤ length (now bytes)) × (rowFault spaceRecord row at ≡ fine) ⌝ }
     ensures { λ _. ⌜ now (bytes .exit) ≡ put at (rowBytes spaceRecord row) (now (bytes .entry)) ⌝ }
 {
     let inner = at + TAGGED_SIZE;
+    let stretch = inner + TAGGED_SIZE;
     put_tagged(row[0], row[1], bytes, at);
     put_tagged(row[2], row[3], bytes, inner);
-    put_byte(row[4], bytes, inner + TAGGED_SIZE);
+    put_byte(row[4], bytes, stretch);
+    put_byte(row[5], bytes, stretch + MARK_SIZE);
 }
 
 pub fn put_track(row: [u32; 4], bytes: &mut [u8], at: usize)

@@ -8,12 +8,13 @@ use Rattle.laws.specs.Lists.{among}
 use Rattle.kinds.specs.declared.amount.Amount.the-variants.{Given}
 use Rattle.kinds.specs.declared.constraint.Constraint.the-variants.{Definite}
 use Rattle.sheet_kinds.specs.Kinds.{space, spaceRow}
+use Rattle.sheet_kinds.specs.declared.axis.Axis.the-variants.{Inline}
 use Rattle.sheet.specs.Rule.{recordSize, rowAt, rowsAt, rowBytes, rowsBytes, twoBytes, fourBytes, taggedFault, rowFault, recordsFault, fine, fault, Sheet, sheetBytes, sheetFrom, sheetAt, faultFrom, sheetFault}
 
 abbrev w12 : Sheet
 w12 =
     record {
-      space = spaceRow (space (Definite 100) (Given 100) false);
+      space = spaceRow (space (Definite 100) (Given 100) false Inline);
       tracks = (2 ∷ 0 ∷ 1 ∷ 0 ∷ []) ∷ [];
       items = (65536 ∷ 1 ∷ 30 ∷ 1 ∷ 30 ∷ 1 ∷ 30 ∷ []) ∷ [];
     }

@@ -12,7 +12,7 @@ use lib.Seq.{getD-append-add}
 use borrow.Author.Tests.{le-leb, lt-leb}
 use Rattle.laws.specs.Tests.{lt-or-ge}
 use Rattle.laws.specs.Lists.{among}
-use Rattle.sheet.specs.Rule.{byteAt, twoAt, fourAt, Tags, Part, tagged, mark, pair, Row, recordSize, spaceRecord, rowAt, rowsAt, taggedFault, rowFault, Fault, fine, fault, first, unless, wholeTo, recordsFault, Section, spaceSection, trackSection, itemSection, countFault, sectionFault, sectionEnd, tracksFrom, itemsFrom, endFrom, sheetFrom, faultFrom}
+use Rattle.sheet.specs.Rule.{byteAt, twoAt, fourAt, Tags, Part, tagged, mark, pair, Row, recordSize, spaceRecord, rowAt, rowsAt, taggedFault, rowFault, Fault, fine, fault, first, unless, wholeTo, recordsFault, Section, spaceSection, trackSection, itemSection, countFault, sectionFault, sectionEnd, tracksFrom, itemsFrom, endFrom, sheetFrom, faultFrom, overFault}
 
 -- a fault, so many places on
 abbrev pub movedBy : ℕ → Fault → Fault
@@ -20,7 +20,7 @@ movedBy k fine = fine
 movedBy k (fault number place) = fault number (place + k)
 
 module _ (k : ℕ) where
-  first-moved : (f g f′ g′ : Fault) → f′ ≡ movedBy k f → g′ ≡ movedBy k g → first f′ g′ ≡ movedBy k (first f g)
+  pub first-moved : (f g f′ g′ : Fault) → f′ ≡ movedBy k f → g′ ≡ movedBy k g → first f′ g′ ≡ movedBy k (first f g)
   first-moved fine g f′ g′ e d = rw e d
   first-moved (fault number place) g f′ g′ e d = rw e
 
@@ -74,7 +74,7 @@ module _ (front bytes : List ℕ) where
   rows-moved parts zero p q e = refl
   rows-moved parts (suc n) p q e = ap₂ _∷_ (row-moved parts p q e) (rows-moved parts n (p + recordSize parts) (q + recordSize parts) (omega arith))
 
-  section-rows-moved : (section : Section) (p q : ℕ) → q ≡ p + length front
+  pub section-rows-moved : (section : Section) (p q : ℕ) → q ≡ p + length front
       → rowsAt (section .parts) (front ++ bytes) (twoAt (front ++ bytes) q) (q + 2) ≡ rowsAt (section .parts) bytes (twoAt bytes p) (p + 2)
   section-rows-moved section p q e =
       ap (λ (n : ℕ). rowsAt (section .parts) (front ++ bytes) n (q + 2)) (two-moved p q e)
@@ -101,7 +101,7 @@ module _ (front bytes : List ℕ) where
       (ap (λ (row : Row). rowFault parts row q) (row-moved parts p q e) ∙ row-fault-moved k parts (rowAt parts bytes p) p q e)
       (records-moved parts n (p + size) (q + size) (omega arith)))
 
-  section-moved : (section : Section) (p q : ℕ) → q ≡ p + length front → sectionFault section (front ++ bytes) q ≡ movedBy (length front) (sectionFault section bytes p)
+  pub section-moved : (section : Section) (p q : ℕ) → q ≡ p + length front → sectionFault section (front ++ bytes) q ≡ movedBy (length front) (sectionFault section bytes p)
   section-moved section p q e =
       let k = length front in
       let count = two-moved p q e in
@@ -110,8 +110,16 @@ module _ (front bytes : List ℕ) where
       (ap (λ (n : ℕ). unless (section .allows n) (fault 3 q)) count ∙ unless-moved k (section .allows (twoAt bytes p)) 3 p q e))
       (ap (λ (n : ℕ). recordsFault (section .parts) (front ++ bytes) n (q + 2)) count ∙ records-moved (section .parts) (twoAt bytes p) (p + 2) (q + 2) (omega arith))
 
-  section-end-moved : (section : Section) (p q : ℕ) → q ≡ p + length front → sectionEnd section (front ++ bytes) q ≡ sectionEnd section bytes p + length front
+  pub section-end-moved : (section : Section) (p q : ℕ) → q ≡ p + length front → sectionEnd section (front ++ bytes) q ≡ sectionEnd section bytes p + length front
   section-end-moved section p q e = rw (two-moved p q e) (omega arith)
+
+  pub over-moved : (p q : ℕ) → q ≡ p + length front → overFault (front ++ bytes) q ≡ movedBy (length front) (overFault bytes p)
+  over-moved p q e =
+      let long = length-append front bytes in
+      ⊎-elim
+      (λ (h : p < length bytes). rw (lt-leb (length bytes) p h, lt-leb (length (front ++ bytes)) q (omega arith)) (ap (fault 2) e))
+      (λ (h : length bytes ≤ p). rw (le-leb (length bytes) p h, le-leb (length (front ++ bytes)) q (omega arith)))
+      (lt-or-ge p (length bytes))
 
   -- ---- the sheet there
 

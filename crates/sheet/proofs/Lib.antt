@@ -29,6 +29,9 @@ pub mod Same
 pub mod Front
 -- bytes before a sheet do not matter
 pub mod From
+-- what stands behind the space does not know of it, and sheets that differ in their axis alone
+pub mod Behind
+pub mod Axes
 -- where a sheet ends, from its counts alone
 pub mod Ends
 -- a sheet's own bytes are never refused with 6

@@ -14,7 +14,7 @@ module _ (b c : List ℕ) (n : ℕ) (same : (i : ℕ) → i < n → byteAt b i �
   pub two-same : (p : ℕ) → p + 2 ≤ n → twoAt b p ≡ twoAt c p
   two-same p h = ap₂ (λ (x y : ℕ). x + 256 * y) (same p (omega arith)) (same (p + 1) (omega arith))
 
-  four-same : (p : ℕ) → p + 4 ≤ n → fourAt b p ≡ fourAt c p
+  pub four-same : (p : ℕ) → p + 4 ≤ n → fourAt b p ≡ fourAt c p
   four-same p h = ap₂ (λ (x y : ℕ). x + 65536 * y) (two-same p (omega arith)) (two-same (p + 2) (omega arith))
 
   row-same : (parts : List Part) (p : ℕ) → p + recordSize parts ≤ n → rowAt parts b p ≡ rowAt parts c p

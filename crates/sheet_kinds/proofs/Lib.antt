@@ -2,3 +2,5 @@
 
 -- a row says the sheet's track, and the one that is sized
 pub mod Resolved
+-- where the axis is read
+pub mod Axes

@@ -9,6 +9,8 @@ use Rattle.laws.specs.Marks.{bit}
 use Rattle.kinds.specs.Kinds.{Row, amountTag, amountNumber, amountOf, constraintTag, constraintNumber, constraintOf}
 use Rattle.kinds.specs.declared.amount.Amount.{Amount}
 use Rattle.kinds.specs.declared.constraint.Constraint.{Constraint}
+use Rattle.sheet_kinds.specs.declared.axis.Axis.{Axis}
+use Rattle.sheet_kinds.specs.declared.axis.Axis.the-variants.{Inline, Block}
 use Rattle.sheet_kinds.specs.declared.space.Space.{Space}
 use Rattle.sheet_kinds.specs.declared.track.SheetMinimum.{SheetMinimum}
 use Rattle.sheet_kinds.specs.declared.track.SheetMinimum.the-variants as minimum
@@ -18,14 +20,21 @@ use Rattle.sheet_kinds.specs.declared.track.SheetTrack.{SheetTrack}
 
 -- ---- The space
 
-abbrev pub space : Constraint → Amount → Bool → Space
-space constraint inner stretch = record { constraint = constraint; inner = inner; stretch = stretch }
+abbrev pub axisByte : Axis → ℕ
+axisByte Inline = 0
+axisByte Block = 1
+
+abbrev pub axisOf : ℕ → Axis
+axisOf n = cond (eqb n 1) Block Inline
+
+abbrev pub space : Constraint → Amount → Bool → Axis → Space
+space constraint inner stretch axis = record { constraint = constraint; inner = inner; stretch = stretch; axis = axis }
 
 abbrev pub spaceRow : Space → Row
-spaceRow s = constraintTag (s .constraint) ∷ constraintNumber (s .constraint) ∷ amountTag (s .inner) ∷ amountNumber (s .inner) ∷ bit (s .stretch) ∷ []
+spaceRow s = constraintTag (s .constraint) ∷ constraintNumber (s .constraint) ∷ amountTag (s .inner) ∷ amountNumber (s .inner) ∷ bit (s .stretch) ∷ axisByte (s .axis) ∷ []
 
 abbrev pub spaceOf : Row → Space
-spaceOf row = space (constraintOf (getD row 0 0) (getD row 1 0)) (amountOf (getD row 2 0) (getD row 3 0)) (eqb (getD row 4 0) 1)
+spaceOf row = space (constraintOf (getD row 0 0) (getD row 1 0)) (amountOf (getD row 2 0) (getD row 3 0)) (eqb (getD row 4 0) 1) (axisOf (getD row 5 0))
 
 -- ---- A track
 

@@ -12,6 +12,8 @@ use Rattle.kinds.specs.declared.track.Minimum.the-variants as minimum
 use Rattle.kinds.specs.declared.track.Maximum.{Maximum}
 use Rattle.kinds.specs.declared.track.Maximum.the-variants as maximum
 use Rattle.kinds.specs.declared.track.Track.{Track}
+use Rattle.sheet_kinds.specs.declared.axis.Axis.{Axis}
+use Rattle.sheet_kinds.specs.declared.axis.Axis.the-variants.{Inline, Block}
 use Rattle.sheet_kinds.specs.declared.space.Space.{Space}
 use Rattle.sheet_kinds.specs.declared.track.SheetMinimum.{SheetMinimum}
 use Rattle.sheet_kinds.specs.declared.track.SheetMinimum.the-variants as least
@@ -19,19 +21,21 @@ use Rattle.sheet_kinds.specs.declared.track.SheetMaximum.{SheetMaximum}
 use Rattle.sheet_kinds.specs.declared.track.SheetMaximum.the-variants as greatest
 use Rattle.sheet_kinds.specs.declared.track.SheetTrack.{SheetTrack}
 
--- ---- Expansion space: the inner size if given; without it, definite becomes max-content and the others stay
+-- ---- Expansion space: the inner size if given; without it, definite becomes max-content and the others stay, but that in the block axis
+-- min-content becomes max-content too. Nothing else reads the axis
 
-abbrev pub withoutInner : Constraint → Constraint
-withoutInner (Definite n) = MaxContent
-withoutInner MinContent = MinContent
-withoutInner MaxContent = MaxContent
+abbrev pub withoutInner : Axis → Constraint → Constraint
+withoutInner axis (Definite n) = MaxContent
+withoutInner Inline MinContent = MinContent
+withoutInner Block MinContent = MaxContent
+withoutInner axis MaxContent = MaxContent
 
-abbrev pub expansionOf : Amount → Constraint → Constraint
-expansionOf (Given n) c = Definite n
-expansionOf Absent c = withoutInner c
+abbrev pub expansionOf : Axis → Amount → Constraint → Constraint
+expansionOf axis (Given n) c = Definite n
+expansionOf axis Absent c = withoutInner axis c
 
 abbrev pub expansion : Space → Constraint
-expansion s = expansionOf (s .inner) (s .constraint)
+expansion s = expansionOf (s .axis) (s .inner) (s .constraint)
 
 -- ---- The track that is sized: each kind that a sheet can say, as a kind that the sizing knows
 

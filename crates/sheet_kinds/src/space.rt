@@ -1,4 +1,5 @@
-// The space: what it asks of the board, its inner size, whether it stretches; and its limit.
+// The space: what it asks of the board, its inner size, whether it stretches, its axis; and its limit.
+use crate::axis::Axis;
 use kinds::Amount;
 use kinds::Constraint;
 use kinds::bit;
@@ -10,6 +11,7 @@ pub struct Space {
     pub constraint: Constraint,
     pub inner: Amount,
     pub stretch: bool,
+    pub axis: Axis,
 }
 
 impl Space {
@@ -17,44 +19,52 @@ impl Space {
     pub const MOST: u32 = Constraint::MOST;
 
     // The space that a row says; one without fault says no other.
-    pub fn of_row(row: [u32; 5]) -> Space
+    pub fn of_row(row: [u32; 6]) -> Space
         ensures { λ r. ⌜ r ≡ spaceOf row ⌝ }
     {
         let constraint = Constraint::of(row[0], row[1]);
         let inner = Amount::of(row[2], row[3]);
         let stretch = row[4] == 1;
+        let axis = Axis::of(row[5]);
         Space {
             constraint,
             inner,
             stretch,
+            axis,
         }
     }
 
-    pub fn row(self) -> [u32; 5]
+    pub fn row(self) -> [u32; 6]
         ensures { λ r. ⌜ r ≡ spaceRow self ⌝ }
     {
         let constraint = self.constraint;
         let inner = self.inner;
+        let axis = self.axis;
         [
             constraint.tag(),
             constraint.number(),
             inner.tag(),
             inner.number(),
             bit(self.stretch),
+            axis.byte(),
         ]
     }
 
-    // The inner size if given; without it, definite becomes max-content and the others stay.
+    // The inner size if given; without it, definite becomes max-content, and in the block axis min-content does too.
     pub fn expansion(self) -> Constraint
         ensures { λ r. ⌜ r ≡ expansion self ⌝ }
     {
         let inner = self.inner;
         let constraint = self.constraint;
+        let axis = self.axis;
         match inner {
             Amount::Given(n) => Constraint::Definite(n),
             Amount::Absent => match constraint {
                 Constraint::Definite(_) => Constraint::MaxContent,
-                Constraint::MinContent => Constraint::MinContent,
+                Constraint::MinContent => match axis {
+                    Axis::Inline => Constraint::MinContent,
+                    Axis::Block => Constraint::MaxContent,
+                },
                 Constraint::MaxContent => Constraint::MaxContent,
             },
         }

@@ -28,7 +28,7 @@ const END: u32 = 2;
 // What a case of reading wants: what is told, the space, and how many rows of each list are left.
 struct ReadWanted {
     wanted: Wanted,
-    space: [u32; 5],
+    space: [u32; 6],
     tracks: usize,
     items: usize,
     next: Cursor,

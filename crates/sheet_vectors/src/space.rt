@@ -1,4 +1,4 @@
-// The space of a case, as the five numbers of its record.
+// The space of a case, as the six numbers of its record.
 ghost use mathlib.Core.Path.{_≡_};
 ghost use mathlib.Core.Bool.{true};
 ghost use Prim.Native.Nat.{_≤_};
@@ -12,37 +12,39 @@ use cases::same;
 use sheet::Space;
 
 pub struct SpaceRead {
-    pub row: [u32; 5],
+    pub row: [u32; 6],
     pub next: Cursor,
 }
 
-// The five numbers, where the case has them.
+// The six numbers, where the case has them.
 pub fn read_space(text: &[u8], from: Cursor, is_there: bool) -> SpaceRead
     requires { ⌜ from .at ≤ length (now text) ⌝ }
     ensures { λ r. ⌜ Onward (now (text .entry)) (from .at) (r .next .at) ⌝ }
 {
     if !is_there {
         return SpaceRead {
-            row: [0; 5],
+            row: [0; 6],
             next: from,
         };
     }
     let constraint = read_tagged(text, from);
     let inner = read_tagged(text, constraint.next);
     let stretch = read_number(text, inner.next);
-    let next = stretch.next;
+    let axis = read_number(text, stretch.next);
+    let next = axis.next;
     let row = [
         constraint.tag,
         constraint.number,
         inner.tag,
         inner.number,
         stretch.value,
+        axis.value,
     ];
     SpaceRead { row, next }
 }
 
-// Whether this is the space that the five numbers say.
-pub fn is_space(space: Space, row: [u32; 5]) -> bool
+// Whether this is the space that the six numbers say.
+pub fn is_space(space: Space, row: [u32; 6]) -> bool
     ensures { λ r. ⌜ (r ≡ true → spaceRow space ≡ row) ⌝ }
 {
     let its_row = space.row();

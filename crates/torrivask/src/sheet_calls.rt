@@ -12,7 +12,7 @@ ghost use Rattle.torrivask.specs.Sheets.{readLeft, readFace, rowSheet, w
 #[no_mangle]
 pub extern "C" fn torrivask_read_sheet(
     sheet: &[u8],
-    space: &mut [u32; 5],
+    space: &mut [u32; 6],
     tracks: &mut [[u32; 4]],
     items: &mut [[u32; 7]],
     track_count: &mut u32,
@@ -42,7 +42,7 @@ pub extern "C" fn torrivask_read_sheet(
 
 #[no_mangle]
 pub extern "C" fn torrivask_write_sheet(
-    space: &[u32; 5],
+    space: &[u32; 6],
     tracks: &[[u32; 4]],
     items: &[[u32; 7]],
     bytes: &mut [u8],

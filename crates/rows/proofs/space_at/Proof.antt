@@ -36,6 +36,13 @@ byte-at-requires-3 : tie.Need-byte-at-requires-3
 unfolding recordSize
 byte-at-requires-3 c κs = search needs
 
+add-byte-at : tie.Need-add-byte-at
+add-byte-at c = search needs
+
+byte-at-requires-4 : tie.Need-byte-at-requires-4
+unfolding recordSize
+byte-at-requires-4 c κs = search needs
+
 returns : tie.Need-returns
 unfolding rowAt
 returns c = cc
@@ -53,4 +60,6 @@ space-at-spec =
     add-four-at-2
     four-at-requires-2
     byte-at-requires-3
+    add-byte-at
+    byte-at-requires-4
     returns)

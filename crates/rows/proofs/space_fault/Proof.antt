@@ -13,6 +13,10 @@ add-inner-at : tie.Need-add-inner-at
 unfolding recordSize
 add-inner-at c = search needs
 
+add-stretch-at : tie.Need-add-stretch-at
+unfolding recordSize
+add-stretch-at c = search needs
+
 array-read-constraint : tie.Need-array-read-constraint
 array-read-constraint c = search needs
 
@@ -42,12 +46,18 @@ fault-requires-2 c κs = search needs
 array-read-stretch-fault : tie.Need-array-read-stretch-fault
 array-read-stretch-fault c = search needs
 
-add-stretch-fault : tie.Need-add-stretch-fault
-unfolding recordSize
-add-stretch-fault c = search needs
-
 stretch-fault-requires : tie.Need-stretch-fault-requires
 stretch-fault-requires c κs = search needs
+
+array-read-axis-fault : tie.Need-array-read-axis-fault
+array-read-axis-fault c = search needs
+
+add-axis-fault : tie.Need-add-axis-fault
+unfolding recordSize
+add-axis-fault c = search needs
+
+axis-fault-requires : tie.Need-axis-fault-requires
+axis-fault-requires c κs = search needs
 
 first-requires : tie.Need-first-requires
 first-requires c κs = search needs
@@ -55,17 +65,34 @@ first-requires c κs = search needs
 first-requires-2 : tie.Need-first-requires-2
 first-requires-2 c κs = search needs
 
+first-requires-3 : tie.Need-first-requires-3
+first-requires-3 c κs = search needs
+
 returns : tie.Need-returns
 unfolding rowFault width
 returns c =
-    let start = c .before .before .before .before .before .before .before in
-    (c .first2 .ensures ∙ ap₂ first (tagged-fault-of-use constraintTags _ _ _ _ _ (c .before .before .before .before .before .fault .ensures) (c .before .before .before .before .before .before .constraint .ensures)) (c .before .first .ensures ∙ ap₂ first (tagged-fault-of-use givenTags _ _ _ _ _ (c .before .before .before .fault2 .ensures) (c .before .before .before .before .given .ensures)) (c .before .before .stretch-fault .ensures ∙ sym (first-fine _))) ∙ ap (λ (row : Row). rowFault spaceRecord row (start .args .at)) (sym (elements 0 5 (start .args .t1) (start .good .0 .1 .0 .1))), start .good .0 .1 .0 .1)
+    let marks = c .before .before in
+    let axis = marks .before in
+    let stretch = axis .before in
+    let inner = stretch .before in
+    let given = inner .before in
+    let constraint = given .before in
+    let start = constraint .before .before in (
+      c .first3 .ensures
+          ∙ ap₂ first (tagged-fault-of-use constraintTags _ _ _ _ _ (constraint .fault .ensures) (constraint .before .constraint .ensures))
+          (c .before .first2 .ensures
+          ∙ ap₂ first (tagged-fault-of-use givenTags _ _ _ _ _ (inner .fault2 .ensures) (given .given .ensures))
+          (marks .first .ensures ∙ ap₂ first (stretch .stretch-fault .ensures) (axis .axis-fault .ensures ∙ sym (first-fine _))))
+          ∙ ap (λ (row : Row). rowFault spaceRecord row (start .args .at)) (sym (elements 0 6 (start .args .t1) (start .good .0 .1 .0 .1))),
+      start .good .0 .1 .0 .1,
+    )
 
 pub space-fault-spec : {M : Type 1} → statement M
 space-fault-spec =
     tie.close
     (tie.spec
     add-inner-at
+    add-stretch-at
     array-read-constraint
     constraint-requires
     array-read-fault
@@ -75,8 +102,11 @@ space-fault-spec =
     array-read-fault-2
     fault-requires-2
     array-read-stretch-fault
-    add-stretch-fault
     stretch-fault-requires
+    array-read-axis-fault
+    add-axis-fault
+    axis-fault-requires
     first-requires
     first-requires-2
+    first-requires-3
     returns)

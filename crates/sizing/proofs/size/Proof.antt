@@ -1,5 +1,6 @@
 -- `size` goes through the steps in order. Assumes nothing.
 use borrow.Author.Needs.{needs}
+use Rattle.spanned.specs.Sound.{ConstraintFits}
 use mathlib.Core.Path.{_≡_, sym, ap, _∙_}
 use mathlib.Core.List.{map}
 use Prim.Native.Nat.{_<_}
@@ -35,7 +36,9 @@ maximise-requires c κs =
     let few = z .few in
     let rows = store .lines-long in
     let same : length ls ≡ length (a .lines .now) = search needs in
-    (record { few = omega arith; bases-fit = bases-fit (linesOf ls) (e .1); none = zeros-as {m = length (a .lines .now)} {n = length ls} (e .3) (sym same); rests-long = search needs }, z .constraint-fits)
+    let given : ConstraintFits (a .constraint) = z .constraint-fits in
+    let expanded : ConstraintFits (a .expansion) = z .expansion-fits in
+    (record { few = omega arith; bases-fit = bases-fit (linesOf ls) (e .1); none = zeros-as {m = length (a .lines .now)} {n = length ls} (e .3) (sym same); rests-long = search needs }, search needs)
 
 fr-batch-requires : tie.Need-fr-batch-requires
 fr-batch-requires c κs =

@@ -1,4 +1,4 @@
--- `Space::expansion` is the inner size if given, else by the constraint. Assumes nothing.
+-- `Space::expansion` is the inner size if given, else by the constraint and, under min-content, by the axis. Assumes nothing.
 use borrow.Author.Needs.{needs}
 use Rattle.sheet_kinds.proofs.space.Space.expansion.Statement.{statement}
 use Rattle.sheet_kinds.proofs.space.Space.expansion.Tie as tie
@@ -18,6 +18,12 @@ enum-told-3 c = search needs
 enum-told-4 : tie.Need-enum-told-4
 enum-told-4 c = search needs
 
+enum-told-5 : tie.Need-enum-told-5
+enum-told-5 c = search needs
+
+enum-told-6 : tie.Need-enum-told-6
+enum-told-6 c = search needs
+
 returns : tie.Need-returns
 returns c = cc
 
@@ -30,6 +36,9 @@ returns-3 c = search needs
 returns-4 : tie.Need-returns-4
 returns-4 c = search needs
 
+returns-5 : tie.Need-returns-5
+returns-5 c = search needs
+
 pub expansion-spec : {M : Type 1} → statement M
 expansion-spec =
     tie.close
@@ -39,7 +48,10 @@ expansion-spec =
     enum-told-2
     enum-told-3
     enum-told-4
+    enum-told-5
+    enum-told-6
     returns
     returns-2
     returns-3
-    returns-4)
+    returns-4
+    returns-5)

@@ -24,6 +24,12 @@ of-requires-2 c κs = search needs
 array-read-stretch : tie.Need-array-read-stretch
 array-read-stretch c = search needs
 
+array-read-of-5 : tie.Need-array-read-of-5
+array-read-of-5 c = search needs
+
+of-requires-3 : tie.Need-of-requires-3
+of-requires-3 c κs = search needs
+
 returns : tie.Need-returns
 returns c = cc
 
@@ -38,4 +44,6 @@ of-row-spec =
     array-read-of-4
     of-requires-2
     array-read-stretch
+    array-read-of-5
+    of-requires-3
     returns)

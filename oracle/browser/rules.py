@@ -17,6 +17,7 @@ DIFFERENT = {
     'fit-content room of bases': 'the room of a fit-content base that has no limit yet is not cut to the argument',
     'fit-content beyond limits': 'what remains of a base share goes to fit-content tracks too',
     'rows at min-content': 'rows without a height grow to their limits in step 5, as under max-content',
+    'rows laid out once': 'rows without a height are laid out again in the height that they came to, as in a definite space',
 }
 SHARED = {
     'fr rows open': 'fr rows without a height stay shut under min-content, as fr columns do',
@@ -257,5 +258,8 @@ def spanned(item):
 
 def sizes(board, otherwise=frozenset()):
     """The sizes of a board's tracks, gutters not among them."""
-    found = Sizing(with_gutters_listed(board), otherwise).run()
+    listed = with_gutters_listed(board)
+    found = Sizing(listed, otherwise).run()
+    if board.space is None and 'rows laid out once' in otherwise:
+        found = Sizing(listed._replace(space=sum(found)), otherwise).run()
     return found if board.gutter is None else found[::2]

@@ -4,5 +4,6 @@
 pub mod Expansion
 -- a layout, case by case as the code goes
 pub mod LaidOut
--- who reads the axis
+-- who reads the axis, and a board that both axes size otherwise
 pub mod Axes
+pub mod Example

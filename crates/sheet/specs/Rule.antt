@@ -7,7 +7,7 @@ use mathlib.Core.List.{List, _++_}
 use lib.Dec.{leb, eqb}
 use lib.ListN.{length}
 use Rattle.rounds.specs.Rule.{mostTracks}
-pub use Rattle.records.specs.Rule.{byteAt, twoAt, fourAt, Tags, tags, constraintTags, givenTags, minimumTags, maximumTags, stretchBytes, Part, tagged, mark, pair, partSize, spaceRecord, trackRecord, itemRecord, Row, Fault, fine, fault, first, unless, enough, onto}
+pub use Rattle.records.specs.Rule.{byteAt, twoAt, fourAt, Tags, tags, constraintTags, givenTags, minimumTags, maximumTags, stretchBytes, axisBytes, Part, tagged, mark, pair, partSize, spaceRecord, trackRecord, itemRecord, Row, Fault, fine, fault, first, unless, enough, onto}
 unfoldable pub use Rattle.records.specs.Rule.{twoBytes, fourBytes, recordSize, rowAt, rowBytes, rowsAt, rowsBytes, taggedFault, rowFault}
 
 -- ---- Sections, each after its two-byte count

@@ -19,6 +19,7 @@ pub use sections::counts_fault_from;
 pub use sections::fault_from;
 pub use sections::over_fault;
 pub use sections::says_few;
+pub use sheet_kinds::Axis;
 pub use sheet_kinds::SheetMaximum;
 pub use sheet_kinds::SheetMinimum;
 pub use sheet_kinds::SheetTrack;

@@ -14,7 +14,11 @@ pub type Sizes = [u32; 2];
 /// The numbers of a space's row.
 pub const SPACE_NUMBERS: usize = 6;
 
-/// Constraint tag and number, inner size tag and number, stretch, axis (0 inline, 1 block).
+/// Axes, the last number of a space's row: of columns, and of rows.
+pub const INLINE: u32 = 0;
+pub const BLOCK: u32 = 1;
+
+/// Constraint tag and number, inner size tag and number, stretch, axis.
 pub type SpaceRow = [u32; SPACE_NUMBERS];
 
 /// Minimum tag and number, maximum tag and number.

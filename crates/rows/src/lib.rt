@@ -6,6 +6,7 @@ use records::numbers::four_at;
 use records::numbers::put_byte;
 use records::numbers::put_four;
 use records::tags;
+use sheet_kinds::SpaceRow;
 ghost use mathlib.Core.Path.{_≡_};
 ghost use mathlib.Core.List.{_∷_};
 ghost use Prim.Native.Nat.{_+_, _≤_, _<_};
@@ -29,7 +30,7 @@ pub const TRACK_SIZE: usize = TAGGED_SIZE + TAGGED_SIZE;
 
 pub const ITEM_SIZE: usize = PAIR_SIZE + TAGGED_SIZE + TAGGED_SIZE + TAGGED_SIZE;
 
-pub fn space_at(bytes: &[u8], at: usize) -> [u32; 6]
+pub fn space_at(bytes: &[u8], at: usize) -> SpaceRow
     requires { ⌜ at + recordSize spaceRecord ≤ length (now bytes) ⌝ }
     ensures { λ r. ⌜ r ≡ rowAt spaceRecord (now (bytes .entry)) at ⌝ }
 {
@@ -76,7 +77,7 @@ pub fn item_at(bytes: &[u8], at: usize) -> [u32; 7]
     ]
 }
 
-pub fn space_fault(row: [u32; 6], at: usize) -> Fault
+pub fn space_fault(row: SpaceRow, at: usize) -> Fault
     requires { ⌜ at + recordSize spaceRecord ≤ lastPlace ⌝ }
     ensures { λ r. ⌜ (faultOf r ≡ rowFault spaceRecord row at) × (length row ≡ width spaceRecord) ⌝ }
 {
@@ -111,7 +112,7 @@ pub fn item_fault(row: [u32; 7], at: usize) -> Fault
 }
 
 // The rows that are put into bytes have no fault, so that each tag fits its byte.
-pub fn put_space(row: [u32; 6], bytes: &mut [u8], at: usize)
+pub fn put_space(row: SpaceRow, bytes: &mut [u8], at: usize)
     requires { ⌜ (at + recordSize spaceRecord ≤ length (now bytes)) × (rowFault spaceRecord row at ≡ fine) ⌝ }
     ensures { λ _. ⌜ now (bytes .exit) ≡ put at (rowBytes spaceRecord row) (now (bytes .entry)) ⌝ }
 {

@@ -24,6 +24,7 @@ pub use sheet_kinds::SheetMaximum;
 pub use sheet_kinds::SheetMinimum;
 pub use sheet_kinds::SheetTrack;
 pub use sheet_kinds::Space;
+pub use sheet_kinds::SpaceRow;
 pub use writing::WriteAnswer;
 pub use writing::write;
 ghost use mathlib.Core.Path.{_≡_};

@@ -6,6 +6,7 @@ mod track;
 
 pub use axis::Axis;
 pub use space::Space;
+pub use space::SpaceRow;
 pub use track::SheetMaximum;
 pub use track::SheetMinimum;
 pub use track::SheetTrack;

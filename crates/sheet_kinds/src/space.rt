@@ -7,6 +7,9 @@ ghost use mathlib.Core.Path.{_≡_};
 ghost use Rattle.sheet_kinds.specs.Kinds.{spaceOf, spaceRow};
 ghost use Rattle.sheet_kinds.specs.Rule.{expansion};
 
+// A space's numbers in the order of its record: constraint tag and number, inner size tag and number, stretch, axis.
+pub type SpaceRow = [u32; 6];
+
 pub struct Space {
     pub constraint: Constraint,
     pub inner: Amount,
@@ -19,7 +22,7 @@ impl Space {
     pub const MOST: u32 = Constraint::MOST;
 
     // The space that a row says; one without fault says no other.
-    pub fn of_row(row: [u32; 6]) -> Space
+    pub fn of_row(row: SpaceRow) -> Space
         ensures { λ r. ⌜ r ≡ spaceOf row ⌝ }
     {
         let constraint = Constraint::of(row[0], row[1]);
@@ -34,7 +37,7 @@ impl Space {
         }
     }
 
-    pub fn row(self) -> [u32; 6]
+    pub fn row(self) -> SpaceRow
         ensures { λ r. ⌜ r ≡ spaceRow self ⌝ }
     {
         let constraint = self.constraint;

@@ -8,6 +8,7 @@ use cases::Wanted;
 use sheet::EndAnswer;
 use sheet::ReadAnswer;
 use sheet::Refusal;
+use sheet::SpaceRow;
 use sheet::WriteAnswer;
 
 fn is_refusal(wanted: Wanted, refusal: Refusal) -> bool
@@ -23,7 +24,7 @@ fn is_refusal(wanted: Wanted, refusal: Refusal) -> bool
 }
 
 // A case of reading wants a refusal's number and place, or the numbers of tracks and items with the space.
-pub fn is_read(wanted: Wanted, row: [u32; 6], answer: ReadAnswer) -> bool
+pub fn is_read(wanted: Wanted, row: SpaceRow, answer: ReadAnswer) -> bool
     ensures { λ r. ⌜ (r ≡ true → readTold answer ≡ wantedRead (wanted .«is_refusal») (wanted .first) (wanted .second) row) ⌝ }
 {
     match answer {

@@ -12,6 +12,7 @@ use cases::Wanted;
 use cases::read_bytes;
 use cases::read_call;
 use cases::read_expected;
+use sheet::SpaceRow;
 
 // More than the most tracks and items, so that lists that are too long for the sheet can be tried.
 const MOST_TRACKS: usize = 300;
@@ -28,7 +29,7 @@ const END: u32 = 2;
 // What a case of reading wants: what is told, the space, and how many rows of each list are left.
 struct ReadWanted {
     wanted: Wanted,
-    space: [u32; 6],
+    space: SpaceRow,
     tracks: usize,
     items: usize,
     next: Cursor,

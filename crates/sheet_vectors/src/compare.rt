@@ -8,6 +8,7 @@ use crate::space::is_space;
 use cases::Wanted;
 use cases::same;
 use sheet::Space;
+use sheet::SpaceRow;
 
 fn same_track(a: [u32; 4], b: [u32; 4]) -> bool
     ensures { λ r. ⌜ (r ≡ true → a ≡ b) ⌝ }
@@ -56,7 +57,7 @@ fn same_items(a: &[[u32; 7]], b: &[[u32; 7]]) -> bool
 // Whether reading tells what is wanted and leaves the rows as given after it.
 pub fn reads(
     wanted: Wanted,
-    space: [u32; 6],
+    space: SpaceRow,
     bytes: &[u8],
     tracks: &mut [[u32; 4]],
     items: &mut [[u32; 7]],
@@ -75,11 +76,11 @@ pub fn reads(
     same_items(items, items_after)
 }
 
-// Whether writing the space that the six numbers say, with these rows, tells what is wanted and leaves the bytes as given
+// Whether writing the space that its row says, with these rows, tells what is wanted and leaves the bytes as given
 // after it.
 pub fn writes(
     wanted: Wanted,
-    space: [u32; 6],
+    space: SpaceRow,
     tracks: &[[u32; 4]],
     items: &[[u32; 7]],
     bytes: &mut [u8],

@@ -1,4 +1,4 @@
-// The space of a case, as the six numbers of its record.
+// The space of a case, as the row of its record.
 ghost use mathlib.Core.Path.{_≡_};
 ghost use mathlib.Core.Bool.{true};
 ghost use Prim.Native.Nat.{_≤_};
@@ -10,13 +10,14 @@ use cases::Cursor;
 use cases::read_number;
 use cases::same;
 use sheet::Space;
+use sheet::SpaceRow;
 
 pub struct SpaceRead {
-    pub row: [u32; 6],
+    pub row: SpaceRow,
     pub next: Cursor,
 }
 
-// The six numbers, where the case has them.
+// The row, where the case has it.
 pub fn read_space(text: &[u8], from: Cursor, is_there: bool) -> SpaceRead
     requires { ⌜ from .at ≤ length (now text) ⌝ }
     ensures { λ r. ⌜ Onward (now (text .entry)) (from .at) (r .next .at) ⌝ }
@@ -43,8 +44,8 @@ pub fn read_space(text: &[u8], from: Cursor, is_there: bool) -> SpaceRead
     SpaceRead { row, next }
 }
 
-// Whether this is the space that the six numbers say.
-pub fn is_space(space: Space, row: [u32; 6]) -> bool
+// Whether this is the space that the row says.
+pub fn is_space(space: Space, row: SpaceRow) -> bool
     ensures { λ r. ⌜ (r ≡ true → spaceRow space ≡ row) ⌝ }
 {
     let its_row = space.row();

@@ -4,6 +4,7 @@ use records::Fault;
 use sheet::EndAnswer;
 use sheet::ReadAnswer;
 use sheet::Space;
+use sheet::SpaceRow;
 use sheet::WriteAnswer;
 ghost use mathlib.Core.Path.{_≡_};
 ghost use Rattle.sheet.specs.Rule.{readCall, writeCall, endCall};
@@ -12,7 +13,7 @@ ghost use Rattle.torrivask.specs.Sheets.{readLeft, readFace, rowSheet, w
 #[no_mangle]
 pub extern "C" fn torrivask_read_sheet(
     sheet: &[u8],
-    space: &mut [u32; 6],
+    space: &mut SpaceRow,
     tracks: &mut [[u32; 4]],
     items: &mut [[u32; 7]],
     track_count: &mut u32,
@@ -42,7 +43,7 @@ pub extern "C" fn torrivask_read_sheet(
 
 #[no_mangle]
 pub extern "C" fn torrivask_write_sheet(
-    space: &[u32; 6],
+    space: &SpaceRow,
     tracks: &[[u32; 4]],
     items: &[[u32; 7]],
     bytes: &mut [u8],

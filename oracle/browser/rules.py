@@ -17,6 +17,7 @@ DIFFERENT = {
     'fit-content room of bases': 'the room of a fit-content base that has no limit yet is not cut to the argument',
     'fit-content beyond limits': 'what remains of a base share goes to fit-content tracks too',
     'rows at min-content': 'rows without a height grow to their limits in step 5, as under max-content',
+    'no factor left': 'the search of an item gives no fr where no factor above 0 is left in it',
     'rows laid out once': 'rows without a height are laid out again in the height that they came to, as in a definite space',
 }
 SHARED = {
@@ -238,7 +239,10 @@ class Sizing:
         held = set(tracks) - set(factor)
         while True:
             rest = [t for t in tracks if t not in held]
-            fr = max(0, space - sum(self.base[t] for t in held)) / max(Fraction(1), sum(factor[t] for t in rest))
+            factors = sum(factor[t] for t in rest)
+            if factors == 0 and 'no factor left' in self.otherwise:
+                return Fraction(0)
+            fr = max(0, space - sum(self.base[t] for t in held)) / max(Fraction(1), factors)
             below = {t for t in rest if factor[t] * fr < self.base[t]}
             if not below:
                 return fr
@@ -261,5 +265,6 @@ def sizes(board, otherwise=frozenset()):
     listed = with_gutters_listed(board)
     found = Sizing(listed, otherwise).run()
     if board.space is None and 'rows laid out once' in otherwise:
-        found = Sizing(listed._replace(space=sum(found)), otherwise).run()
+        # The browser cuts each row to a 64th of a dot before it adds them up.
+        found = Sizing(listed._replace(space=sum(Fraction(size * 64 // 1, 64) for size in found)), otherwise).run()
     return found if board.gutter is None else found[::2]

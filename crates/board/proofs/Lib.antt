@@ -6,5 +6,5 @@ pub mod Unique
 pub mod Tracks
 -- what decides the answer is at the front of the bytes
 pub mod Front
--- both axes give one board
-pub mod Axes
+-- where both axes give one board
+pub mod SameBoard

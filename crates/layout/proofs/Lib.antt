@@ -4,6 +4,6 @@
 pub mod Expansion
 -- a layout, case by case as the code goes
 pub mod LaidOut
--- who reads the axis, and a board that both axes size otherwise
-pub mod Axes
+-- where both axes give one board, and a board that they size otherwise
+pub mod SameBoard
 pub mod Example

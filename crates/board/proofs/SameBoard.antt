@@ -14,7 +14,7 @@ use Rattle.sheet_kinds.specs.declared.space.Space.{Space}
 use Rattle.sheet.specs.Rule.{Fault, fine, fault, sheetFault, sheetAt}
 use Rattle.sheet.proofs.Axes.{axisAt, fault-along, tracks-along, items-along, space-along}
 use Rattle.layout.specs.Rule.{BoardOutcome, layoutCall}
-use Rattle.layout.proofs.Axes.{axes-give-one-board}
+use Rattle.layout.proofs.SameBoard.{axes-give-one-board}
 use Rattle.board.specs.Rule.{sheetLayout, boardAs, boardCall}
 
 module _ (front behind : List ℕ) (long : length front ≡ axisAt) where

@@ -50,8 +50,8 @@ extern "C" {
 #define TORRIVASK_SPACE_NUMBERS 6
 #define TORRIVASK_LONGEST_SHEET 22034
 
-/* axes, the last number of a space's row. The axis is read under min-content without an inner size alone: fr tracks then grow in the block
- * axis as under max-content, and stay shut in the inline axis. */
+/* axes, the last number of a space's row. The axis makes a difference only under min-content without an inner size: fr tracks then grow in
+ * the block axis as under max-content, and stay at their bases in the inline axis. */
 #define TORRIVASK_INLINE 0u
 #define TORRIVASK_BLOCK 1u
 

@@ -1,14 +1,15 @@
 //! Times the proved library, through C, against the plain Rust: the same calls on the same inputs, in one run.
 //!
 //!     bench                                      the table: time of a call on either side, and Rattle over Rust
-//!     bench --only N                             one input of it
+//!     bench --fills                              fills alone, of few and many tracks, with rooms of three sorts
+//!     bench --only N                             one input: 1 to 7 of the table, 8 to 16 of the fills
 //!     bench --only N --side rattle|rust COUNT    its calls so many times on one side and nothing else, for a profiler
 //!     bench --growth                             how the time of a call grows with tracks, items and spans
 mod random;
 mod recipes;
 
 use dots::kinds::Refusal;
-use recipes::{fills, Fill, Input, Size};
+use recipes::{fills, Fill, Input, Rooms, Size};
 use std::hint::black_box;
 use std::ops::Range;
 use std::process::exit;
@@ -47,7 +48,9 @@ const TABLE: [(&str, Make); 7] = [
     ("256 tracks, 1,024 items, spans to 200", || {
         size(256, 1024, 200).boards()
     }),
-    ("a fill of 256 tracks, all rooms different", || fills(256)),
+    ("a fill of 256 tracks, all rooms different", || {
+        fills(256, Rooms::Different)
+    }),
     ("a sheet refused at its last byte", || {
         BIG.refused_at_the_last_byte()
     }),
@@ -56,11 +59,30 @@ const TABLE: [(&str, Make); 7] = [
     }),
 ];
 
+const FILLS: [(&str, Make); 9] = [
+    ("3 tracks, all rooms different", || {
+        fills(3, Rooms::Different)
+    }),
+    ("16 tracks, all rooms different", || {
+        fills(16, Rooms::Different)
+    }),
+    ("256 tracks, all rooms different", || {
+        fills(256, Rooms::Different)
+    }),
+    ("3 tracks, equal rooms", || fills(3, Rooms::Equal)),
+    ("16 tracks, equal rooms", || fills(16, Rooms::Equal)),
+    ("256 tracks, equal rooms", || fills(256, Rooms::Equal)),
+    ("3 tracks, no limits", || fills(3, Rooms::NoLimit)),
+    ("16 tracks, no limits", || fills(16, Rooms::NoLimit)),
+    ("256 tracks, no limits", || fills(256, Rooms::NoLimit)),
+];
+
 fn main() {
     let words: Vec<String> = std::env::args().skip(1).collect();
     let words: Vec<&str> = words.iter().map(String::as_str).collect();
     match words[..] {
         [] => print_table(&TABLE),
+        ["--fills"] => print_table(&FILLS),
         ["--growth"] => growth(),
         ["--only", number] => print_table(&[only(number)]),
         ["--only", number, "--side", side, count] => {
@@ -78,7 +100,7 @@ fn main() {
 }
 
 fn usage() -> ! {
-    eprintln!("usage: bench [--growth | --only N [--side rattle|rust COUNT]]");
+    eprintln!("usage: bench [--fills | --growth | --only N [--side rattle|rust COUNT]]");
     exit(2)
 }
 
@@ -86,7 +108,7 @@ fn only(number: &str) -> (&'static str, Make) {
     let chosen = number
         .parse()
         .ok()
-        .and_then(|n: usize| TABLE.get(n.wrapping_sub(1)));
+        .and_then(|n: usize| TABLE.iter().chain(&FILLS).nth(n.wrapping_sub(1)));
     *chosen.unwrap_or_else(|| usage())
 }
 
@@ -120,7 +142,7 @@ fn growth() {
         &|n| size(256, 1024, n).boards(),
     );
     grow("tracks of a fill, all rooms different", &few, &|n| {
-        fills(n as u32)
+        fills(n as u32, Rooms::Different)
     });
 }
 

@@ -47,33 +47,41 @@ pub fn share(mut dots: u32, rooms: &[u32], gains: &mut [u32]) -> Filled {
     gains.fill(0);
     let mut rounds = 0;
     while dots > 0 {
-        let mut open = 0;
-        let mut least_room = NO_LIMIT;
-        for (gain, room) in gains.iter().zip(rooms) {
-            if gain < room {
-                open += 1;
-                least_room = least_room.min(room - gain);
-            }
-        }
+        let (open, least_room) = open_and_least_room(rooms, gains);
         if open == 0 {
             break;
         }
 
         rounds += 1;
-        let open_gains = gains
-            .iter_mut()
-            .zip(rooms)
-            .filter(|(gain, room)| **gain < **room)
-            .map(|(gain, _)| gain);
         let quotient = dots / open;
         if quotient == 0 {
+            let open_gains = gains
+                .iter_mut()
+                .zip(rooms)
+                .filter(|(gain, room)| **gain < **room)
+                .map(|(gain, _)| gain);
             open_gains.take(dots as usize).for_each(|gain| *gain += 1);
             dots = 0;
         } else {
             let each = quotient.min(least_room);
-            open_gains.for_each(|gain| *gain += each);
+            for (gain, room) in gains.iter_mut().zip(rooms) {
+                // An open track has room for all of it, and a full one stays full.
+                *gain = (*gain + each).min(*room);
+            }
             dots -= each * open;
         }
     }
     Filled { left: dots, rounds }
+}
+
+/// How many tracks are open, and the least room of an open one, in one walk without a branch: the compiler takes four tracks at a time.
+fn open_and_least_room(rooms: &[u32], gains: &[u32]) -> (u32, u32) {
+    let mut open = 0;
+    let mut least_room = NO_LIMIT;
+    for (gain, room) in gains.iter().zip(rooms) {
+        let rest = room - gain;
+        open += rest.min(1);
+        least_room = least_room.min(if rest == 0 { NO_LIMIT } else { rest });
+    }
+    (open, least_room)
 }

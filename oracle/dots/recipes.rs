@@ -152,22 +152,43 @@ fn item(random: &mut Random, tracks: &[Track], span: usize, fr: Fr) -> Item {
     }
 }
 
-/// Fills of so many tracks, with all rooms different and dots for nearly all of them: a round for each.
-pub fn fills(tracks: u32) -> Input {
+/// What rooms the tracks of a fill have.
+#[derive(Clone, Copy)]
+pub enum Rooms {
+    /// All different: a round for each.
+    Different,
+    /// All the same: two rounds at most, one for all of them and one for the odd dots.
+    Equal,
+    /// No limits: the rounds of equal rooms.
+    NoLimit,
+}
+
+/// Fills of so many tracks, with dots for nearly all of their rooms.
+pub fn fills(tracks: u32, kind: Rooms) -> Input {
     let fill = |f| {
         let random = &mut Random::new(2, u64::from(f));
-        let mut rooms: Vec<u32> = (1..=tracks)
-            .map(|t| 10 * t + random.between(0, 9))
-            .collect();
-        for t in 0..rooms.len() {
-            rooms.swap(t, random.index(t + 1));
-        }
+        let rooms = match kind {
+            Rooms::Different => different_rooms(tracks, random),
+            Rooms::Equal | Rooms::NoLimit => {
+                vec![5 * tracks + random.between(0, 9); tracks as usize]
+            }
+        };
         Fill {
             dots: rooms.iter().sum::<u32>() - random.between(1, 5),
             affected: vec![true; rooms.len()],
-            limited: vec![true; rooms.len()],
+            limited: vec![!matches!(kind, Rooms::NoLimit); rooms.len()],
             rooms,
         }
     };
     Input::Fills((0..CALLS).map(fill).collect())
+}
+
+fn different_rooms(tracks: u32, random: &mut Random) -> Vec<u32> {
+    let mut rooms: Vec<u32> = (1..=tracks)
+        .map(|t| 10 * t + random.between(0, 9))
+        .collect();
+    for t in 0..rooms.len() {
+        rooms.swap(t, random.index(t + 1));
+    }
+    rooms
 }

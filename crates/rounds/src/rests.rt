@@ -2,10 +2,10 @@
 use crate::numbers::less;
 use crate::numbers::smaller;
 ghost use mathlib.Core.Path.{_≡_};
-ghost use Prim.Native.Nat.{_-_, _≤_, min};
+ghost use Prim.Native.Nat.{ℕ, _≤_, min};
 ghost use lib.ListN.{length};
 ghost use Rattle.rounds.specs.Rule.{mostTracks};
-ghost use Rattle.rounds.specs.Rests.{openRests, lowered, leastRest, takeEach, takeOdd};
+ghost use Rattle.rounds.specs.Rests.{lowered, takeEach, takeOdd};
 ghost use Rattle.rounds.specs.Found.{foundIn};
 
 // What a round has to know: how many tracks are open, and the least room of an open one.
@@ -14,50 +14,30 @@ pub struct Found {
     pub least: u32,
 }
 
-// The one place that looks for both. The least room counts only where it is below `most`.
+// The one place that looks for both, in one walk. The least room counts only where it is below `most`.
 pub fn survey(most: u32, rests: &[u32]) -> Found
     requires { ⌜ length (now rests) ≤ mostTracks ⌝ }
     ensures { λ r. ⌜ r ≡ foundIn most (now (rests .entry)) ⌝ }
 {
-    let count = count_open(rests);
-    let least = least_room(most, rests);
+    let mut count: u32 = 0;
+    let mut least = most;
+    let mut i = 0;
+    while i < rests.len() {
+        let rest = rests[i];
+        let one = smaller(1, rest);
+        count += one;
+        least = smaller(least, open_room(rest));
+        i += 1;
+    }
     Found { count, least }
 }
 
-fn count_open(rests: &[u32]) -> u32
-    requires { ⌜ length (now rests) ≤ mostTracks ⌝ }
-    ensures { λ r. ⌜ r ≡ openRests (now (rests .entry)) ⌝ }
+// The room of an open track. A full one has none: the largest number stands for it, which is below no other. The choice looks at the
+// rest alone, and the walk itself calls this, so the compiler takes four rests at a time.
+fn open_room(rest: u32) -> u32
+    ensures { λ r. ⌜ ((m : ℕ) → m ≤ 4294967295 → min m r ≡ lowered m rest) ⌝ }
 {
-    let mut n: u32 = 0;
-    let mut i = 0;
-    while i < rests.len() {
-        let one = smaller(1, rests[i]);
-        n += one;
-        i += 1;
-    }
-    n
-}
-
-fn least_room(most: u32, rests: &[u32]) -> u32
-    ensures { λ r. ⌜ r ≡ leastRest most (now (rests .entry)) ⌝ }
-{
-    let mut m = most;
-    let mut i = 0;
-    while i < rests.len() {
-        m = lower(m, rests[i]);
-        i += 1;
-    }
-    m
-}
-
-// A rest of 0 is no room of an open track.
-fn lower(m: u32, rest: u32) -> u32
-    ensures { λ r. ⌜ r ≡ lowered m rest ⌝ }
-{
-    if rest == 0 {
-        return m;
-    }
-    smaller(m, rest)
+    if rest == 0 { u32::MAX } else { rest }
 }
 
 // Each open track takes k, which is no more than the least room.

@@ -74,14 +74,15 @@ pub fn share(mut dots: u32, rooms: &[u32], gains: &mut [u32]) -> Filled {
     Filled { left: dots, rounds }
 }
 
-/// How many tracks are open, and the least room of an open one, in one walk without a branch: the compiler takes four tracks at a time.
+/// How many tracks are open, and the least room of an open one, in one walk without a branch. A full track's room, less one, wraps around
+/// and is never the least; where no track is open the second number says nothing.
 fn open_and_least_room(rooms: &[u32], gains: &[u32]) -> (u32, u32) {
     let mut open = 0;
-    let mut least_room = NO_LIMIT;
+    let mut least_less_one = u32::MAX;
     for (gain, room) in gains.iter().zip(rooms) {
         let rest = room - gain;
         open += rest.min(1);
-        least_room = least_room.min(if rest == 0 { NO_LIMIT } else { rest });
+        least_less_one = least_less_one.min(rest.wrapping_sub(1));
     }
-    (open, least_room)
+    (open, least_less_one.wrapping_add(1))
 }

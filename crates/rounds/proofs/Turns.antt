@@ -1,8 +1,12 @@
 -- A turn and the end of each loop over the rests, said of lists. Assumes nothing.
-use mathlib.Core.Path.{_≡_, ap}
+use mathlib.Core.Path.{_≡_, refl, ap}
+use mathlib.Core.Bool.{Bool, true, false, cond}
 use mathlib.Core.List.{List}
-use Prim.Native.Nat.{ℕ, _+_, _≤_, _<_, min}
+use Prim.Native.Nat.{ℕ, _+_, _-_, _≤_, _<_, min}
+use native.Mathlib.Omega.{arith}
+use lib.Dec.{eqb}
 use lib.ListN.{length, getD, drop, drop-of-length-le}
+use borrow.Author.Tests.{eqb-false}
 use Rattle.laws.specs.Walk.{next}
 use Rattle.rounds.specs.Rests.{openRests, lowered, leastRest}
 
@@ -22,3 +26,17 @@ module _ (l : List ℕ) (i : ℕ) where
   pub least-end : (m w : ℕ) → length l ≤ i → leastRest m (drop i l) ≡ w → m ≡ w
   unfolding leastRest
   least-end m w h p = rw (drop-of-length-le l) at p
+
+min-assoc : (a b c : ℕ) → min a (min b c) ≡ min (min a b) c
+min-assoc a b c = omega arith
+
+-- b is the least room so far less one. A rest of 0 counts as the largest number, and lowers nothing.
+pub lowered-less-one : (most b x y : ℕ) → b < 4294967295 → y ≡ min b (cond (eqb x 0) 4294967295 (x - 1)) → min most (y + 1) ≡ lowered (min most (b + 1)) x
+lowered-less-one most b x y h p = go (eqb x 0) refl p
+  where
+    go : (t : Bool) → eqb x 0 ≡ t → y ≡ min b (cond t 4294967295 (x - 1)) → min most (y + 1) ≡ cond t (min most (b + 1)) (min (min most (b + 1)) x)
+    go true e q = omega (arith, q)
+    go false e q =
+        let n : (x ≡ 0 → ⊥) = eqb-false x 0 e in
+        let u : y + 1 ≡ min (b + 1) x = omega (arith, q, n) in
+        rw u (min-assoc most (b + 1) x)

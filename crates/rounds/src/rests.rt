@@ -2,10 +2,12 @@
 use crate::numbers::less;
 use crate::numbers::smaller;
 ghost use mathlib.Core.Path.{_≡_};
-ghost use Prim.Native.Nat.{ℕ, _≤_, min};
+ghost use mathlib.Core.Bool.{cond};
+ghost use Prim.Native.Nat.{_-_, _≤_};
+ghost use lib.Dec.{eqb};
 ghost use lib.ListN.{length};
 ghost use Rattle.rounds.specs.Rule.{mostTracks};
-ghost use Rattle.rounds.specs.Rests.{lowered, takeEach, takeOdd};
+ghost use Rattle.rounds.specs.Rests.{takeEach, takeOdd};
 ghost use Rattle.rounds.specs.Found.{foundIn};
 
 // What a round has to know: how many tracks are open, and the least room of an open one.
@@ -20,24 +22,25 @@ pub fn survey(most: u32, rests: &[u32]) -> Found
     ensures { λ r. ⌜ r ≡ foundIn most (now (rests .entry)) ⌝ }
 {
     let mut count: u32 = 0;
-    let mut least = most;
+    let mut least_less_one = u32::MAX - 1;
     let mut i = 0;
     while i < rests.len() {
         let rest = rests[i];
         let one = smaller(1, rest);
         count += one;
-        least = smaller(least, open_room(rest));
+        least_less_one = smaller(least_less_one, one_less(rest));
         i += 1;
     }
+    let least = smaller(most, least_less_one + 1);
     Found { count, least }
 }
 
-// The room of an open track. A full one has none: the largest number stands for it, which is below no other. The choice looks at the
-// rest alone, and the walk itself calls this, so the compiler takes four rests at a time.
-fn open_room(rest: u32) -> u32
-    ensures { λ r. ⌜ ((m : ℕ) → m ≤ 4294967295 → min m r ≡ lowered m rest) ⌝ }
+// A rest less one. That of a full track, 0, becomes the largest number, which is never the least: the walk passes it over without a branch,
+// and the compiler takes four rests at a time.
+fn one_less(rest: u32) -> u32
+    ensures { λ r. ⌜ r ≡ cond (eqb rest 0) 4294967295 (rest - 1) ⌝ }
 {
-    if rest == 0 { u32::MAX } else { rest }
+    if rest == 0 { u32::MAX } else { rest - 1 }
 }
 
 // Each open track takes k, which is no more than the least room.

@@ -2,11 +2,11 @@
 use mathlib.Core.Path.{_≡_, refl, ap}
 use mathlib.Core.Bool.{Bool, true, false, cond}
 use mathlib.Core.List.{List}
-use Prim.Native.Nat.{ℕ, _+_, _-_, _≤_, _<_, min}
+use Prim.Native.Nat.{ℕ, _+_, _%_, _≤_, _<_, min}
 use native.Mathlib.Omega.{arith}
 use lib.Dec.{eqb}
 use lib.ListN.{length, getD, drop, drop-of-length-le}
-use borrow.Author.Tests.{eqb-false}
+use borrow.Author.Tests.{eqb-true, eqb-false}
 use Rattle.laws.specs.Walk.{next}
 use Rattle.rounds.specs.Rests.{openRests, lowered, leastRest}
 
@@ -30,13 +30,16 @@ module _ (l : List ℕ) (i : ℕ) where
 min-assoc : (a b c : ℕ) → min a (min b c) ≡ min (min a b) c
 min-assoc a b c = omega arith
 
--- b is the least room so far less one. A rest of 0 counts as the largest number, and lowers nothing.
-pub lowered-less-one : (most b x y : ℕ) → b < 4294967295 → y ≡ min b (cond (eqb x 0) 4294967295 (x - 1)) → min most (y + 1) ≡ lowered (min most (b + 1)) x
-lowered-less-one most b x y h p = go (eqb x 0) refl p
+-- b is the least room so far less one, and r a rest less one, which wraps: a rest of 0 lowers nothing
+pub lowered-less-one : (most b x r y : ℕ) → b < 4294967295 → r < 4294967296 → (r + 1) % 4294967296 ≡ x → y ≡ min b r → min most (y + 1) ≡ lowered (min most (b + 1)) x
+lowered-less-one most b x r y h k w p = go (eqb x 0) refl
   where
-    go : (t : Bool) → eqb x 0 ≡ t → y ≡ min b (cond t 4294967295 (x - 1)) → min most (y + 1) ≡ cond t (min most (b + 1)) (min (min most (b + 1)) x)
-    go true e q = omega (arith, q)
-    go false e q =
+    go : (t : Bool) → eqb x 0 ≡ t → min most (y + 1) ≡ cond t (min most (b + 1)) (min (min most (b + 1)) x)
+    go true e =
+        let z : x ≡ 0 = eqb-true x 0 e in
+        let u : y ≡ b = omega (arith, z) in
+        rw u
+    go false e =
         let n : (x ≡ 0 → ⊥) = eqb-false x 0 e in
-        let u : y + 1 ≡ min (b + 1) x = omega (arith, q, n) in
+        let u : y + 1 ≡ min (b + 1) x = omega (arith, n) in
         rw u (min-assoc most (b + 1) x)

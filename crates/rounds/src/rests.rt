@@ -1,10 +1,9 @@
 // The walks over the rests, each track's room that is left: what is open, and what a round takes.
 use crate::numbers::less;
 use crate::numbers::smaller;
+use std::num::wrapping_sub_u32;
 ghost use mathlib.Core.Path.{_≡_};
-ghost use mathlib.Core.Bool.{cond};
-ghost use Prim.Native.Nat.{_-_, _≤_};
-ghost use lib.Dec.{eqb};
+ghost use Prim.Native.Nat.{_≤_};
 ghost use lib.ListN.{length};
 ghost use Rattle.rounds.specs.Rule.{mostTracks};
 ghost use Rattle.rounds.specs.Rests.{takeEach, takeOdd};
@@ -17,30 +16,25 @@ pub struct Found {
 }
 
 // The one place that looks for both, in one walk. The least room counts only where it is below `most`.
+// The walk keeps it less one: the rest of a full track, 0, wraps to the largest number, which is never the least. So it has no branch, and
+// the compiler takes four rests at a time.
 pub fn survey(most: u32, rests: &[u32]) -> Found
     requires { ⌜ length (now rests) ≤ mostTracks ⌝ }
     ensures { λ r. ⌜ r ≡ foundIn most (now (rests .entry)) ⌝ }
 {
     let mut count: u32 = 0;
+    // One more is still a number.
     let mut least_less_one = u32::MAX - 1;
     let mut i = 0;
     while i < rests.len() {
         let rest = rests[i];
         let one = smaller(1, rest);
         count += one;
-        least_less_one = smaller(least_less_one, one_less(rest));
+        least_less_one = smaller(least_less_one, wrapping_sub_u32(rest, 1));
         i += 1;
     }
     let least = smaller(most, least_less_one + 1);
     Found { count, least }
-}
-
-// A rest less one. That of a full track, 0, becomes the largest number, which is never the least: the walk passes it over without a branch,
-// and the compiler takes four rests at a time.
-fn one_less(rest: u32) -> u32
-    ensures { λ r. ⌜ r ≡ cond (eqb rest 0) 4294967295 (rest - 1) ⌝ }
-{
-    if rest == 0 { u32::MAX } else { rest - 1 }
 }
 
 // Each open track takes k, which is no more than the least room.

@@ -1,7 +1,7 @@
 -- `survey` meets its contract. The loop's invariant: those counted and those still to count are all, and the least room so far, of which b is
 -- one less, lowered by the rests still to read, is the least of all. Assumes nothing.
 use borrow.Author.Needs.{needs}
-use mathlib.Core.Path.{_≡_, ap, _∙_}
+use mathlib.Core.Path.{_≡_}
 use Prim.Native.Nat.{_+_, _-_, _≤_, _<_, min}
 use native.Mathlib.Omega.{arith}
 use lib.ListN.{length, getD, drop}
@@ -36,8 +36,8 @@ smaller-requires c κs = search needs
 add-count : tie.Need-add-count Inv-loop μ-loop
 add-count c = omega (arith, c .smaller .ensures)
 
-one-less-requires : tie.Need-one-less-requires Inv-loop μ-loop
-one-less-requires c κs = search needs
+wrapping-sub-u32-requires : tie.Need-wrapping-sub-u32-requires Inv-loop μ-loop
+wrapping-sub-u32-requires c κs = search needs
 
 smaller-requires-2 : tie.Need-smaller-requires-2 Inv-loop μ-loop
 smaller-requires-2 c κs = search needs
@@ -57,8 +57,8 @@ loop-again c =
     let s = l .before .before in
     let xs = s .args .rests .now in
     let o = open-step xs (l .loop .i) (t .loop-test .taken) in
-    let p = c .smaller2 .ensures ∙ ap (min (l .loop .least-less-one)) (r .one-less .ensures) in
-    (search needs, omega (arith, n), omega (arith, c .smaller2 .ensures), omega (arith, n, o), least-step xs (l .loop .i) _ _ _ (t .loop-test .taken) (lowered-less-one (s .args .most) (l .loop .least-less-one) (getD xs (l .loop .i) 0) (c .smaller2 .result) (l .loop .inv .2) p) (l .loop .inv .4))
+    let w = r .wrapping-sub-u32 in
+    (search needs, omega (arith, n), omega (arith, c .smaller2 .ensures), omega (arith, n, o), least-step xs (l .loop .i) _ _ _ (t .loop-test .taken) (lowered-less-one (s .args .most) (l .loop .least-less-one) (getD xs (l .loop .i) 0) (w .result) (c .smaller2 .result) (l .loop .inv .2) (w .ok) (w .ensures) (c .smaller2 .ensures)) (l .loop .inv .4))
 
 add-smaller : tie.Need-add-smaller Inv-loop μ-loop
 add-smaller c = search needs
@@ -86,7 +86,7 @@ survey-spec =
     shared-slice-read-rest
     smaller-requires
     add-count
-    one-less-requires
+    wrapping-sub-u32-requires
     smaller-requires-2
     add-i
     loop-less

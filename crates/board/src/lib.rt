@@ -1,5 +1,7 @@
 // The board: a sheet's bytes and lent sizes in, sizes or a refusal out (specs/Rule.antt is the rule, docs/PROMISES.md the promise
 // in words). A sheet is read, and what it says is laid out. All memory that this takes is chosen here, once, and lent to what is below.
+#![tactic(auto)]
+
 mod refusal;
 
 ghost use Rattle.std.specs.Prelude.{◌≡◌, true};
@@ -16,7 +18,7 @@ pub use refusal::Refusal;
 use sheet::{ReadAnswer, says_few};
 pub use sizing::Free;
 
-#[derive(Drop)]
+#[derive(Clone, Copy)]
 pub enum BoardAnswer {
     Board {
         tracks: usize,

@@ -12,7 +12,7 @@ const MOST_BYTES: usize = 24000;
 
 const MOST_PLACES: usize = 320;
 
-#[derive(Drop)]
+#[derive(Clone, Copy)]
 struct ToldRead {
     told: Told,
     next: Cursor,

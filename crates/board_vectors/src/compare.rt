@@ -10,7 +10,7 @@ use cases::Wanted;
 
 // What a case wants told: a refusal's number and place, or a board's tracks and rounds, and beside these its free space: whether
 // there is one, whether it is below 0, and how many dots it is from 0.
-#[derive(Drop)]
+#[derive(Clone, Copy)]
 pub struct Told {
     pub wanted: Wanted,
     pub has_free: bool,

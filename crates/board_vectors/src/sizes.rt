@@ -5,7 +5,7 @@ ghost use Rattle.texts.specs.Reading.{Onward, Counted};
 use cases::{Cursor, List, ended, read_length, read_number, read_times, same};
 
 // A place that was read, how often it is still repeated, and where reading goes on.
-#[derive(Drop)]
+#[derive(Clone, Copy)]
 struct Place {
     row: [u32; 2],
     left: u32,

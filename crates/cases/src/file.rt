@@ -18,7 +18,7 @@ pub fn buffer() -> [u8; MOST_BYTES]
 }
 
 // Whether the whole file was read, and its length.
-#[derive(Drop)]
+#[derive(Clone, Copy)]
 pub struct Loaded {
     pub is_whole: bool,
     pub length: usize,

@@ -1,5 +1,7 @@
 // Cases in a text file: reading them, walking over them, and printing how many agree. A program that runs cases adds the call
 // that it tries and the comparison. What reads the text itself is the crate texts, whose calls are handed on.
+#![tactic(auto)]
+
 mod compare;
 mod file;
 mod report;

@@ -6,7 +6,7 @@ use texts::{Fault, Run};
 
 // How many cases there were and how many differ; of the first that differs its number, from 1,
 // and where its name stands.
-#[derive(Drop)]
+#[derive(Clone, Copy)]
 pub struct Tally {
     pub cases: usize,
     pub differ: usize,

@@ -7,7 +7,7 @@ use crate::report::{Tally, print_fault, print_tally};
 use texts::{Cursor, Fault, Run, going, stopped};
 
 // Whether a case agrees, and where reading it ended.
-#[derive(Drop)]
+#[derive(Clone, Copy)]
 pub struct Checked {
     pub agrees: bool,
     pub next: Cursor,
@@ -15,7 +15,7 @@ pub struct Checked {
 
 // Where the next case begins, the end of the text where there is none; the cases so far; and the fault at which the walk
 // stopped, if any.
-#[derive(Drop)]
+#[derive(Clone, Copy)]
 pub struct Walk {
     pub at: usize,
     pub tally: Tally,

@@ -4,14 +4,14 @@ ghost use Rattle.texts.specs.Reading.{Onward};
 
 use texts::{Cursor, read_mark, read_number};
 
-#[derive(Drop)]
+#[derive(Clone, Copy)]
 pub struct Wanted {
     pub is_refusal: bool,
     pub first: u32,
     pub second: u32,
 }
 
-#[derive(Drop)]
+#[derive(Clone, Copy)]
 pub struct Expected {
     pub wanted: Wanted,
     pub next: Cursor,

@@ -1,5 +1,7 @@
 // The items gathered into batches once: a head for each batch, and beside each item the next of its batch, so that a batch
 // costs the items in it.
+#![tactic(auto)]
+
 ghost use Rattle.std.specs.Prelude.{◌≡◌, map, ◌≤◌, length, replicate};
 ghost use Rattle.rounds.specs.Rule.{most_tracks};
 ghost use Rattle.kinds.specs.Kinds.{track_of};

@@ -10,7 +10,7 @@ use crate::refusal::Refusal;
 use kinds::Item;
 use spanned::{is_measured, lacks_contribution};
 
-#[derive(Drop)]
+#[derive(Clone, Copy)]
 pub(crate) enum ItemCheck {
     Over,
     Outside,

@@ -1,4 +1,6 @@
 // The records of a board at fault: refusals 7 to 10, on rows (specs/Rule.antt is the rule).
+#![tactic(auto)]
+
 mod item_check;
 mod lowest;
 mod over;

@@ -3,7 +3,7 @@ ghost use Rattle.std.specs.Prelude.{◌≡◌};
 ghost use Rattle.records.specs.Rule.{first};
 ghost use Rattle.checks.specs.Answer.{number_of, place_of, fault_of};
 
-#[derive(Drop)]
+#[derive(Clone, Copy)]
 pub enum Refusal {
     // A number is over its limit.
     NumberOver { record: usize },
@@ -40,7 +40,7 @@ impl Refusal {
 }
 
 // No record at fault, or the refusal.
-#[derive(Drop)]
+#[derive(Clone, Copy)]
 pub enum Fault {
     Fine,
     Found(Refusal),

@@ -1,5 +1,7 @@
 // Steps 1 to 4 of the sizing: the sizes that content asks (lines/specs/Rule.antt is the rule). Its one call is for the sizing and says what
 // it asks.
+#![tactic(auto)]
+
 ghost use Rattle.std.specs.Prelude.{◌≡◌, map, ◌+◌, ◌≤◌, length};
 ghost use Rattle.laws.specs.Lists.{All};
 ghost use Rattle.rounds.specs.Rule.{most_tracks};

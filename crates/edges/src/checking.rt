@@ -4,7 +4,7 @@ ghost use Rattle.edges.specs.Rule.{edges_fault};
 ghost use Rattle.edges.specs.Answer.{check_fault};
 ghost use Rattle.edges.specs.Steps.{stopped_at, is_fault, behind_fault};
 
-#[derive(Drop)]
+#[derive(Clone, Copy)]
 pub enum Checked {
     Fine,
     // The first entry at fault; 0 where there is none.

@@ -7,7 +7,7 @@ ghost use Rattle.edges.specs.Steps.{LastUpTo};
 use crate::checking::{Checked, check};
 use crate::refusal::Refusal;
 
-#[derive(Drop)]
+#[derive(Clone, Copy)]
 pub enum LookupAnswer {
     Track(usize),
     // The dot is at the total or past it.

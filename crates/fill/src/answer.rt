@@ -2,7 +2,7 @@
 ghost use Rattle.std.specs.Prelude.{◌≡◌};
 ghost use Rattle.fill.specs.Answer.{number_of, place_of};
 
-#[derive(Drop)]
+#[derive(Clone, Copy)]
 pub enum Refusal {
     // The lists, gains too, differ in length or exceed the most tracks.
     Lists,
@@ -12,7 +12,7 @@ pub enum Refusal {
     Room { track: u8 },
 }
 
-#[derive(Drop)]
+#[derive(Clone, Copy)]
 pub enum FillAnswer {
     Filled { leftover: u32, rounds: u32 },
     Refused(Refusal),

@@ -3,6 +3,8 @@
 //
 // The lent gains are the working store: they hold each track's rest while the rounds run, and its gain at the end. No
 // byte of them is written before every refusal has been ruled out.
+#![tactic(auto)]
+
 mod answer;
 mod limits;
 mod lists;

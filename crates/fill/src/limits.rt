@@ -4,7 +4,7 @@ ghost use Rattle.fill.specs.Rule.{most_dots};
 ghost use Rattle.fill.specs.Answer.{track_at, over_at, cap_at};
 
 // A space, or a room in one.
-#[derive(Drop)]
+#[derive(Clone, Copy)]
 pub struct Space {
     pub dots: u32,
 }
@@ -26,7 +26,7 @@ impl Space {
 }
 
 // A track: affected or not, with a limit or without, and the room up to that limit. Without one the room means nothing.
-#[derive(Drop)]
+#[derive(Clone, Copy)]
 pub struct Track {
     pub affected: bool,
     pub limited: bool,

@@ -10,7 +10,7 @@ use cases::{Checked, Cursor, Wanted, read_expected, read_marks, read_number, rea
 const MOST_ENTRIES: usize = 300;
 
 // How many entries of each lent list were read, and where reading goes on.
-#[derive(Drop)]
+#[derive(Clone, Copy)]
 struct Tracks {
     affected: usize,
     limited: usize,
@@ -18,7 +18,7 @@ struct Tracks {
     next: Cursor,
 }
 
-#[derive(Drop)]
+#[derive(Clone, Copy)]
 struct Gains {
     before: usize,
     wanted: Wanted,

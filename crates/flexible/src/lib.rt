@@ -1,4 +1,6 @@
 // The flexible tracks: step 6 of the sizing (the rule is in the specs of lines).
+#![tactic(auto)]
+
 mod grow;
 mod max_content;
 mod search;

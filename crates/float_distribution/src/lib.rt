@@ -2,6 +2,8 @@
 // (specs/Distribution.antt names the Rust's float steps in the Rust's order).
 //
 // The lists say, for each track, whether it is affected, its proportion, the size that grows and the limit it grows to.
+#![tactic(auto)]
+
 mod part;
 mod pass;
 

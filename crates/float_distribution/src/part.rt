@@ -5,7 +5,7 @@ ghost use Rattle.float_distribution.specs.Distribution.{is_open, add_proportion,
 use float_track::{Track, f32_min};
 
 // What a track takes part with.
-#[derive(Drop)]
+#[derive(Clone, Copy)]
 pub(crate) struct Part {
     pub(crate) affected: bool,
     pub(crate) proportion: f32,
@@ -14,7 +14,7 @@ pub(crate) struct Part {
 }
 
 // A track after its turn, and the space that is left.
-#[derive(Drop)]
+#[derive(Clone, Copy)]
 pub(crate) struct Grown {
     pub(crate) track: Track,
     pub(crate) space: f32,

@@ -4,7 +4,7 @@ ghost use Rattle.float_domain.specs.Domain.{in_range, in_size, in_limit, in_fact
 
 use float_track::{INFINITY_BITS, SIGN_BIT};
 
-#[derive(Drop)]
+#[derive(Clone, Copy)]
 pub enum Kind {
     // A size or a space.
     Size,

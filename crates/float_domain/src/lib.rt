@@ -1,6 +1,8 @@
 // The domain of the ported routines: which floats they take, and what refuses a call (specs/Domain.antt is the rule).
 //
 // Every float that is handed over is tested, whether or not the routine will read it; an absent number has none to test.
+#![tactic(auto)]
+
 mod kind;
 mod lengths;
 mod numbers;

@@ -3,7 +3,7 @@ ghost use Rattle.std.specs.Prelude.{◌≡◌};
 ghost use Rattle.laws.specs.Faults.{first};
 ghost use Rattle.float_domain.specs.Answer.{number_of, place_of, fault_of, is_found};
 
-#[derive(Drop)]
+#[derive(Clone, Copy)]
 pub enum Refusal {
     // The slices differ in length, or are longer than `Track::MOST`.
     Lengths,
@@ -36,7 +36,7 @@ impl Refusal {
 }
 
 // What a test of a call finds.
-#[derive(Drop)]
+#[derive(Clone, Copy)]
 pub enum Fault {
     Fine,
     Found(Refusal),

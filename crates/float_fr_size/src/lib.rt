@@ -1,12 +1,14 @@
 // The size of an fr: the largest that does not exceed the space, with every track that it would shrink held at its base
 // (specs/Fr.antt names the Rust's float steps in the Rust's order).
+#![tactic(auto)]
+
 ghost use Rattle.std.specs.Prelude.{◌≡◌, ◌<◌, length};
 ghost use Rattle.float_fr_size.specs.Fr.{grows, add_to, holds_for, flex_at, sums_of, all_hold, fr_size, FrLengths};
 
 use float_track::{INFINITY_BITS, f32_max};
 
 // What the search reads of a track.
-#[derive(Drop)]
+#[derive(Clone, Copy)]
 pub(crate) struct Flex {
     flexible: bool,
     factor: f32,
@@ -14,7 +16,7 @@ pub(crate) struct Flex {
 }
 
 // The base sizes of the tracks held inflexible, and the factors of the others.
-#[derive(Drop)]
+#[derive(Clone, Copy)]
 pub(crate) struct Sums {
     used: f32,
     factors: f32,

@@ -1,5 +1,7 @@
 // What alignment adds to each gutter, where the inner size and every track's estimate are known (specs/Gutters.antt names
 // the Rust's float steps in the Rust's order).
+#![tactic(auto)]
+
 ghost use Rattle.std.specs.Prelude.{◌≡◌, ◌<◌, length};
 ghost use Rattle.laws.specs.Lists.{every};
 ghost use Rattle.float_laws.specs.Sum.{sum_of};
@@ -8,7 +10,7 @@ ghost use Rattle.float_gutters.specs.Gutters.{outer_weight, inner_weight, itself
 use float_track::{OptionalSize, f32_max};
 
 // The keywords of the Rust, in its order.
-#[derive(Drop)]
+#[derive(Clone, Copy)]
 pub enum AlignContent {
     Normal,
     Start,

@@ -1,5 +1,7 @@
 // Maximise: free space goes to the base sizes, up to the smaller of growth limit and fit-content limit; infinite space
 // takes every base size to its growth limit (specs/Maximise.antt names the Rust's float steps in the Rust's order).
+#![tactic(auto)]
+
 ghost use Rattle.std.specs.Prelude.{◌≡◌, map, ◌+◌, length};
 ghost use Rattle.float_track.specs.Track.{base_size};
 ghost use Rattle.float_distribution.specs.Distribution.{lists, OneLength, passes, left};

@@ -1,5 +1,7 @@
 // Stretch: what is free is shared equally by the tracks of auto maximum (specs/Stretch.antt names the Rust's float steps in
 // the Rust's order).
+#![tactic(auto)]
+
 ghost use Rattle.std.specs.Prelude.{◌≡◌, ◌≤◌, ◌+◌, length};
 ghost use Rattle.laws.specs.Marks.{bit, number};
 ghost use Rattle.float_laws.specs.Numbers.{most_tracks};

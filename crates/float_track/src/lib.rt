@@ -2,6 +2,8 @@
 //
 // The lent store holds a track as a row of five floats, in the record's order; the infinitely growable mark stands beside
 // a row, since no routine over rows reads or writes it.
+#![tactic(auto)]
+
 mod bits;
 mod least;
 mod space;

@@ -4,14 +4,14 @@ ghost use Rattle.float_track.specs.Space.{free_space, left_of, stretch_space};
 
 use crate::bits::INFINITY_BITS;
 
-#[derive(Drop)]
+#[derive(Clone, Copy)]
 pub enum AvailableSpace {
     Definite(f32),
     MinContent,
     MaxContent,
 }
 
-#[derive(Drop)]
+#[derive(Clone, Copy)]
 pub enum OptionalSize {
     Given(f32),
     Absent,

@@ -4,7 +4,7 @@ ghost use Rattle.float_track.specs.Track.{track_of, row_of, flush_base, flush_li
 
 use crate::bits::INFINITY_BITS;
 
-#[derive(Drop)]
+#[derive(Clone, Copy)]
 pub struct Track {
     pub base_size: f32,
     pub growth_limit: f32,

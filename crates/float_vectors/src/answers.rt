@@ -9,7 +9,7 @@ use cases::Wanted;
 use floats::{FlushAnswer, NumberAnswer, Refusal, Track, TracksAnswer};
 
 // What a case wants told: a refusal's number and place, or an answer, with the result float and the mark that it may have.
-#[derive(Drop)]
+#[derive(Clone, Copy)]
 pub struct Told {
     pub wanted: Wanted,
     pub result: f32,

@@ -22,7 +22,7 @@ const LAST_ROUTINE: u32 = 6;
 
 // The routine's number and its arguments that are no lists: the number of an alignment or of a kind of space, the space, a mark
 // (whether a size is given, or the one that a limit gets), and the size.
-#[derive(Drop)]
+#[derive(Clone, Copy)]
 struct Given {
     routine: u32,
     choice: u32,
@@ -33,7 +33,7 @@ struct Given {
 }
 
 // How many entries of each lent list were read.
-#[derive(Drop)]
+#[derive(Clone, Copy)]
 struct Lists {
     rows: usize,
     marks: usize,
@@ -43,7 +43,7 @@ struct Lists {
     next: Cursor,
 }
 
-#[derive(Drop)]
+#[derive(Clone, Copy)]
 struct ToldRead {
     told: Told,
     next: Cursor,

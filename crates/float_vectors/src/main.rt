@@ -1,5 +1,7 @@
 // Runs the float routines on every case of the file that the first argument names, and prints how many agree.
 // A file with a fault in it is refused: one line on standard error, and none on standard output.
+#![tactic(auto)]
+
 mod answers;
 mod calls;
 mod case;

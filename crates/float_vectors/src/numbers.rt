@@ -8,7 +8,7 @@ ghost use Rattle.float_vectors.specs.Wanted.{bits_of};
 use cases::{Cursor, List, read_length, read_number};
 use float_track::{INFINITY_BITS, SIGN_BIT};
 
-#[derive(Drop)]
+#[derive(Clone, Copy)]
 pub struct Float {
     pub value: f32,
     pub next: Cursor,

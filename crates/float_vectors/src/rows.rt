@@ -6,7 +6,7 @@ ghost use Rattle.float_vectors.specs.Wanted.{row_bits, rows_bits};
 use crate::numbers::{read_float, same_float};
 use cases::{Cursor, List, read_length};
 
-#[derive(Drop)]
+#[derive(Clone, Copy)]
 struct Row {
     row: [f32; 5],
     next: Cursor,

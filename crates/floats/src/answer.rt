@@ -3,21 +3,21 @@ use float_domain::Refusal;
 use float_track::Track;
 
 // A number: what is left, the size of an fr, a gutter's adjustment.
-#[derive(Drop)]
+#[derive(Clone, Copy)]
 pub enum NumberAnswer {
     Number(f32),
     Refused(Refusal),
 }
 
 // The sizes stand in the lent tracks.
-#[derive(Drop)]
+#[derive(Clone, Copy)]
 pub enum TracksAnswer {
     Sized,
     Refused(Refusal),
 }
 
 // The track, flushed.
-#[derive(Drop)]
+#[derive(Clone, Copy)]
 pub enum FlushAnswer {
     Flushed(Track),
     Refused(Refusal),

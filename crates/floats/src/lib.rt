@@ -3,6 +3,8 @@
 //
 // The second clause of a contract says that Rust's own minimum and maximum give the same (specs/Rust.antt); of a call that takes neither, that its
 // numbers are f32 in their domains.
+#![tactic(auto)]
+
 mod adjusting;
 mod answer;
 mod distributing;

@@ -1,8 +1,10 @@
 // Reading an open file into lent bytes: how much of it there is, and how reading went.
+#![tactic(auto)]
+
 ghost use Rattle.io.specs.Counts.{IsPrefixLen};
 
 // How reading went, and how many bytes were read.
-#[derive(Drop)]
+#[derive(Clone, Copy)]
 pub struct Read {
     // The input ended, or the lent bytes did.
     pub is_whole: bool,

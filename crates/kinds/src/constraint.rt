@@ -2,7 +2,7 @@
 ghost use Rattle.std.specs.Prelude.{◌≡◌};
 ghost use Rattle.kinds.specs.Kinds.{constraint_of, constraint_tag, constraint_number};
 
-#[derive(Drop)]
+#[derive(Clone, Copy)]
 pub enum Constraint {
     Definite(u32),
     MinContent,

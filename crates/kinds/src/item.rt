@@ -5,7 +5,7 @@ ghost use Rattle.kinds.specs.Kinds.{amount_of, contribution, kind_index, item_of
 use crate::amount::Amount;
 
 // The kinds of contribution, in the order of an item's row.
-#[derive(Drop)]
+#[derive(Clone, Copy)]
 pub enum ContributionKind {
     Minimum,
     MinContent,
@@ -25,7 +25,7 @@ impl ContributionKind {
     }
 }
 
-#[derive(Drop)]
+#[derive(Clone, Copy)]
 pub struct Contribution {
     pub amount: Amount,
 }
@@ -39,7 +39,7 @@ impl Contribution {
     }
 }
 
-#[derive(Drop)]
+#[derive(Clone, Copy)]
 pub struct Item {
     pub start: u16,
     pub span: u16,

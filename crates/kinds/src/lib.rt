@@ -1,4 +1,6 @@
 // The kinds of a board that the sizing reads, each with the limits that bound it. They know of rows, and of no byte (specs/Kinds.antt).
+#![tactic(auto)]
+
 mod amount;
 mod constraint;
 mod item;

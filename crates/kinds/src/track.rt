@@ -2,7 +2,7 @@
 ghost use Rattle.std.specs.Prelude.{◌≡◌};
 ghost use Rattle.kinds.specs.Kinds.{minimum_of, maximum_of, track_of};
 
-#[derive(Drop)]
+#[derive(Clone, Copy)]
 pub enum Minimum {
     Fixed(u32),
     Auto,
@@ -10,7 +10,7 @@ pub enum Minimum {
     MaxContent,
 }
 
-#[derive(Drop)]
+#[derive(Clone, Copy)]
 pub enum Maximum {
     Fixed(u32),
     Auto,
@@ -82,7 +82,7 @@ impl Maximum {
     }
 }
 
-#[derive(Drop)]
+#[derive(Clone, Copy)]
 pub struct Track {
     pub minimum: Minimum,
     pub maximum: Maximum,

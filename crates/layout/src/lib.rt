@@ -1,5 +1,7 @@
 // A space and rows laid out into lent sizes, wherever they were read: the sizes or a refusal (specs/Rule.antt is the rule). No size is
 // written before every refusal has been ruled out. Its one call is for who has read a sheet and lends a store: it says what it asks.
+#![tactic(auto)]
+
 mod refusal;
 
 ghost use Rattle.std.specs.Prelude.{◌≡◌, map, ◌≤◌, length};
@@ -16,7 +18,7 @@ use sheet_kinds::Space;
 pub use sizing::Free;
 use sizing::size;
 
-#[derive(Drop)]
+#[derive(Clone, Copy)]
 pub enum LayoutAnswer {
     Board {
         tracks: usize,

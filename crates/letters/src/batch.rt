@@ -14,7 +14,7 @@ use crate::letter::Letter;
 use crate::share::share_extra;
 use lines::Line;
 
-#[derive(Drop)]
+#[derive(Clone, Copy)]
 pub enum Batch {
     OfSpan,
     Last,

@@ -7,7 +7,7 @@ ghost use Rattle.letters.specs.Letters.{by_minimum, by_maximum, letter_of, chang
 use kinds::{Maximum, Minimum};
 use lines::{Limit, Line, with_sizes};
 
-#[derive(Drop)]
+#[derive(Clone, Copy)]
 pub enum Letter {
     A,
     B,

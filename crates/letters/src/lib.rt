@@ -1,5 +1,7 @@
 // The lettered steps of the longer spans on the lines that an item spans: extra dots shared out by the fill or by factor, increases planned
 // and applied (lines/specs/Rule.antt is the rule). Its functions are for the sizing: each says what it asks.
+#![tactic(auto)]
+
 mod batch;
 mod by_factor;
 mod contribution;

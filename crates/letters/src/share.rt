@@ -18,7 +18,7 @@ use lines::{Limit, Line};
 use rounds::{less, run_rounds};
 
 // What is shared out by one fill alone: the dots of step 5, those of step 7, or those of a letter in the last batch where all factors are 0.
-#[derive(Drop)]
+#[derive(Clone, Copy)]
 pub enum Share {
     Maximise,
     Stretch,

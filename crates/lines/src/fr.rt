@@ -1,5 +1,5 @@
 // fr as an exact fraction: so many dots for `per` thousandths of a factor.
-#[derive(Drop)]
+#[derive(Clone, Copy)]
 pub struct Fr {
     pub dots: u32,
     pub per: u32,

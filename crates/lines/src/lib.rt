@@ -1,4 +1,6 @@
 // The lines: tracks at work, and what each step makes of them (specs/Rule.antt is the rule of the sizing).
+#![tactic(auto)]
+
 mod fr;
 mod limit;
 mod line;

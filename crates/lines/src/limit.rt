@@ -6,7 +6,7 @@ ghost use Rattle.lines.specs.Rows.{limit_of, room_of};
 
 use rounds::{larger, less, smaller};
 
-#[derive(Drop)]
+#[derive(Clone, Copy)]
 pub enum Limit {
     None,
     UpTo(u32),

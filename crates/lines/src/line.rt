@@ -8,7 +8,7 @@ ghost use Rattle.lines.specs.Rows.{line_of, limit_number, limit_tag, room_of};
 use crate::limit::Limit;
 use kinds::{Maximum, Minimum, Track, bit};
 
-#[derive(Drop)]
+#[derive(Clone, Copy)]
 pub struct Line {
     pub track: Track,
     pub base: u32,

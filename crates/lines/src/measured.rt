@@ -7,7 +7,7 @@ ghost use Rattle.lines.specs.Parts.{measured_of};
 
 use kinds::{ContributionKind, Item};
 
-#[derive(Drop)]
+#[derive(Clone, Copy)]
 pub struct Measured {
     pub start: u16,
     pub span: u16,

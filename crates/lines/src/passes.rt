@@ -21,7 +21,7 @@ pub fn start(tracks: &[[u32; 4]], lines: &mut [[u32; 8]])
 
 // What a pass makes of each line: a limit below base becomes base, a missing limit becomes base, or every base becomes its
 // limit.
-#[derive(Drop)]
+#[derive(Clone, Copy)]
 pub enum Pass {
     Settle,
     Missing,

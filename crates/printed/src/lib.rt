@@ -1,5 +1,7 @@
 // What the reader prints, made in lent bytes before any of it is written out (specs/Rule.antt is the rule, docs/PROMISES.md the promise in
 // words).
+#![tactic(auto)]
+
 mod answer;
 mod message;
 mod put;
@@ -13,7 +15,7 @@ use board::board;
 use kinds::Track;
 pub use message::{MOST_MESSAGE, print_message};
 
-#[derive(Drop)]
+#[derive(Clone, Copy)]
 pub enum PrintAnswer {
     // The text is the first so many bytes.
     Printed { length: usize },

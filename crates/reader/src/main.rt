@@ -1,6 +1,8 @@
 // Sizes sheets and prints their boards: `reader SHEET...`, each file in turn; with no name, or for `-`, the sheet on standard input.
 // A refusal is an answer like a board and goes to standard output. The text of an answer is made whole before any of it is written
 // (crate printed, where it is proved). What cannot be read or written is told in one line on standard error.
+#![tactic(auto)]
+
 mod store;
 mod words;
 
@@ -9,7 +11,7 @@ use printed::{MOST_MESSAGE, MOST_TEXT, PrintAnswer};
 use words::Word;
 
 // How a word of the command line leaves things: whether `--` is behind us, whether a sheet was answered for, and whether to go on.
-#[derive(Drop)]
+#[derive(Clone, Copy)]
 struct Step {
     is_past: bool,
     is_sheet: bool,

@@ -2,7 +2,7 @@
 ghost use Rattle.std.specs.Prelude.{◌≡◌};
 ghost use Rattle.reader.specs.Words.{Says, is_help, is_past, is_option};
 
-#[derive(Drop)]
+#[derive(Clone, Copy)]
 pub enum Word {
     // `--help`
     Help,

@@ -3,7 +3,7 @@ ghost use Rattle.std.specs.Prelude.{◌≡◌};
 ghost use Rattle.records.specs.Rule.{first, unless};
 ghost use Rattle.records.specs.Answer.{number_of, place_of, fault_of, is_fine, refusal_fault};
 
-#[derive(Drop)]
+#[derive(Clone, Copy)]
 pub enum Refusal {
     // A count or a record is not wholly there: the sheet's length.
     Short { length: usize },
@@ -48,7 +48,7 @@ impl Refusal {
 }
 
 // What a look at a part of a sheet finds.
-#[derive(Drop)]
+#[derive(Clone, Copy)]
 pub enum Fault {
     Fine,
     Found(Refusal),

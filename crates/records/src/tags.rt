@@ -8,7 +8,7 @@ use crate::refusal::{Fault, Refusal};
 use kinds::{Amount, Constraint};
 use sheet_kinds::{Axis, SheetMaximum, SheetMinimum};
 
-#[derive(Drop)]
+#[derive(Clone, Copy)]
 pub enum Use {
     Carries,
     Bare,

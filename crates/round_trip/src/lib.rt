@@ -1,5 +1,7 @@
 // There and back: a sheet that is read and written is its own bytes, and one that is written and read its own space and rows
 // (specs/Rule.antt is the rule). Nobody calls these in the core: they say of the calls of `sheet` what they do together.
+#![tactic(auto)]
+
 mod lengths;
 
 ghost use Rattle.std.specs.Prelude.{◌≡◌};

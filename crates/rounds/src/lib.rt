@@ -1,5 +1,7 @@
 // The rounds of a fill, on the rests: what room each track has left, in memory that the caller lends (specs/Rule.antt is the fill's
 // rule, specs/Rests.antt the same on rests). Whoever fills rests of his own calls this; the call with its refusals is the crate fill.
+#![tactic(auto)]
+
 mod numbers;
 mod rests;
 
@@ -12,7 +14,7 @@ pub use numbers::{larger, less, smaller};
 use rests::Found;
 pub use rests::take_odd;
 
-#[derive(Drop)]
+#[derive(Clone, Copy)]
 pub struct Rounds {
     pub left: u32,
     pub rounds: u32,

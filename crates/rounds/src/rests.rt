@@ -8,7 +8,7 @@ use crate::numbers::{less, smaller};
 use std::num::wrapping_sub_u32;
 
 // What a round has to know: how many tracks are open, and the least room of an open one.
-#[derive(Drop)]
+#[derive(Clone, Copy)]
 pub struct Found {
     pub count: u32,
     pub least: u32,

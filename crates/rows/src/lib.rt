@@ -1,5 +1,7 @@
 // A record as a row of numbers: read off the bytes, looked through for faults, and put back into bytes (the rule is that of
 // `records`). Its functions are for the sheet, `space_fault` also for the C face: each says what it asks.
+#![tactic(auto)]
+
 ghost use Rattle.std.specs.Prelude.{◌≡◌, ◌∷◌, ◌+◌, ◌≤◌, ◌<◌, length};
 ghost use Rattle.laws.specs.Put.{put};
 ghost use Rattle.records.specs.Rule.{space_record, track_record, item_record, record_size, row_at, row_bytes, row_fault, fine, four_bytes};

@@ -1,5 +1,7 @@
 // The sheet: its bytes are met here and, record by record, in `rows` and `records` below it, and nowhere else (specs/Rule.antt is the
 // rule, docs/SHEET.md the format in words).
+#![tactic(auto)]
+
 mod reading;
 mod sections;
 mod writing;
@@ -16,7 +18,7 @@ pub use sections::{LONGEST, SPACE_AT, counts_fault_from, fault_from, over_fault,
 pub use sheet_kinds::{Axis, SheetMaximum, SheetMinimum, SheetTrack, Space, SpaceRow};
 pub use writing::{WriteAnswer, write};
 
-#[derive(Drop)]
+#[derive(Clone, Copy)]
 pub enum EndAnswer {
     At(usize),
     Refused(Refusal),

@@ -10,7 +10,7 @@ use records::numbers::two_at;
 use records::{Fault, Refusal};
 use sheet_kinds::Space;
 
-#[derive(Drop)]
+#[derive(Clone, Copy)]
 pub enum ReadAnswer {
     Sheet {
         space: Space,

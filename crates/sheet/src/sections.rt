@@ -22,7 +22,7 @@ const EMPTY: usize = TRACKS_AT + COUNT_SIZE + COUNT_SIZE;
 
 pub const LONGEST: usize = EMPTY + Track::MOST * rows::TRACK_SIZE + Item::MOST * rows::ITEM_SIZE;
 
-#[derive(Drop)]
+#[derive(Clone, Copy)]
 pub(crate) enum Section {
     Space,
     Tracks,

@@ -14,7 +14,7 @@ use records::numbers::put_two;
 use records::{Fault, Refusal};
 use sheet_kinds::Space;
 
-#[derive(Drop)]
+#[derive(Clone, Copy)]
 pub enum WriteAnswer {
     Written { length: usize },
     Refused(Refusal),

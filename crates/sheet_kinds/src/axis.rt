@@ -2,7 +2,7 @@
 ghost use Rattle.std.specs.Prelude.{◌≡◌};
 ghost use Rattle.sheet_kinds.specs.Kinds.{axis_of, axis_byte};
 
-#[derive(Drop)]
+#[derive(Clone, Copy)]
 pub enum Axis {
     Inline,
     Block,

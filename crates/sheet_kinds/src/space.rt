@@ -9,7 +9,7 @@ use kinds::{Amount, Constraint, bit};
 // A space's numbers in the order of its record: constraint tag and number, inner size tag and number, stretch, axis.
 pub type SpaceRow = [u32; 6];
 
-#[derive(Drop)]
+#[derive(Clone, Copy)]
 pub struct Space {
     pub constraint: Constraint,
     pub inner: Amount,

@@ -5,7 +5,7 @@ ghost use Rattle.sheet_kinds.specs.Rule.{resolved_minimum, resolved_maximum, res
 
 use kinds::{Maximum, Minimum, Track};
 
-#[derive(Drop)]
+#[derive(Clone, Copy)]
 pub enum SheetMinimum {
     Fixed(u32),
     Auto,
@@ -13,7 +13,7 @@ pub enum SheetMinimum {
     MaxContent,
 }
 
-#[derive(Drop)]
+#[derive(Clone, Copy)]
 pub enum SheetMaximum {
     Fixed(u32),
     Auto,
@@ -109,7 +109,7 @@ impl SheetMaximum {
     }
 }
 
-#[derive(Drop)]
+#[derive(Clone, Copy)]
 pub struct SheetTrack {
     pub minimum: SheetMinimum,
     pub maximum: SheetMaximum,

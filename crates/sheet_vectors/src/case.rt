@@ -22,7 +22,7 @@ const WRITE: u32 = 1;
 const END: u32 = 2;
 
 // What a case of reading wants: what is told, the space, and how many rows of each list are left.
-#[derive(Drop)]
+#[derive(Clone, Copy)]
 struct ReadWanted {
     wanted: Wanted,
     space: SpaceRow,

@@ -5,7 +5,7 @@ ghost use Rattle.texts.specs.Reading.{Onward, Counted};
 use cases::{Cursor, List, ended, read_length, read_number, read_times};
 
 // A tag and the number beside it.
-#[derive(Drop)]
+#[derive(Clone, Copy)]
 pub struct Tagged {
     pub tag: u32,
     pub number: u32,
@@ -13,14 +13,14 @@ pub struct Tagged {
 }
 
 // A row that was read, how often it is still repeated, and where reading goes on.
-#[derive(Drop)]
+#[derive(Clone, Copy)]
 struct TrackRow {
     row: [u32; 4],
     left: u32,
     next: Cursor,
 }
 
-#[derive(Drop)]
+#[derive(Clone, Copy)]
 struct ItemRow {
     row: [u32; 7],
     left: u32,
@@ -28,7 +28,7 @@ struct ItemRow {
 }
 
 // How many rows of each lent list were read, and where reading goes on.
-#[derive(Drop)]
+#[derive(Clone, Copy)]
 pub struct Rows {
     pub tracks: usize,
     pub items: usize,

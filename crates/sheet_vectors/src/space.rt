@@ -7,7 +7,7 @@ use crate::rows::read_tagged;
 use cases::{Cursor, read_number, same};
 use sheet::{Space, SpaceRow};
 
-#[derive(Drop)]
+#[derive(Clone, Copy)]
 pub struct SpaceRead {
     pub row: SpaceRow,
     pub next: Cursor,

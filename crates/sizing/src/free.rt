@@ -3,7 +3,7 @@ ghost use Rattle.std.specs.Prelude.{◌≡◌, ◌+◌, ◌≤◌};
 ghost use Rattle.std.proofs.Math.IntN.{sub_ℕ};
 ghost use Rattle.sizing.specs.Size.{most_free, most_lacking};
 
-#[derive(Drop)]
+#[derive(Clone, Copy)]
 pub enum Free {
     None,
     Dots(i32),

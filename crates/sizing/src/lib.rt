@@ -1,5 +1,7 @@
 // The sizing of a board without fault, step after step (lines/specs/Rule.antt is the rule). Its one function is for the layout:
 // it asks what the checks have made sure of, and a store to work in.
+#![tactic(auto)]
+
 mod dots;
 mod finish;
 mod free;
@@ -15,7 +17,7 @@ use finish::finish;
 pub use free::Free;
 use kinds::Constraint;
 
-#[derive(Drop)]
+#[derive(Clone, Copy)]
 pub struct Sized {
     pub free: Free,
     pub rounds: u32,

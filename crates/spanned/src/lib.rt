@@ -1,5 +1,7 @@
 // What an item spans, and what it lacks: a measured item spans a track that is not fixed at both ends (specs/Rule.antt is the rule). A look at what is
 // spanned takes the span's tracks and no more; a span is cut to the tracks that there are, so it asks nothing of its caller.
+#![tactic(auto)]
+
 ghost use Rattle.std.specs.Prelude.{◌≡◌, ◌+◌, min, map};
 ghost use Rattle.kinds.specs.Kinds.{track_of};
 ghost use Rattle.spanned.specs.Rule.{is_fixed, is_fr, is_measured, crosses_fr, lacks_contribution};

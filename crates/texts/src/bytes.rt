@@ -10,14 +10,14 @@ use crate::numbers::{is_end, read_times};
 const NO_DIGIT: u8 = 16;
 
 // The group that is read: where it starts, how often it is still repeated, and where its next byte stands.
-#[derive(Drop)]
+#[derive(Clone, Copy)]
 struct Group {
     start: usize,
     left: u32,
     next: Cursor,
 }
 
-#[derive(Drop)]
+#[derive(Clone, Copy)]
 struct Byte {
     value: u8,
     next: Cursor,

@@ -4,7 +4,7 @@ ghost use Rattle.std.specs.Prelude.{◌≡◌};
 ghost use Rattle.texts.specs.Text.{is_going};
 
 // The faults that only a crate above meets stand here too, since a cursor carries whichever comes first.
-#[derive(Drop)]
+#[derive(Clone, Copy)]
 pub enum Fault {
     None,
     // No digit, or a digit with something else than a blank after it.
@@ -33,7 +33,7 @@ pub enum Fault {
     TooLong,
 }
 
-#[derive(Drop)]
+#[derive(Clone, Copy)]
 pub struct Cursor {
     pub at: usize,
     pub fault: Fault,

@@ -1,4 +1,6 @@
 // Reading a text: numbers, marks, and lists of them or of bytes, each from a place in the text to the place behind it.
+#![tactic(auto)]
+
 mod bytes;
 mod cursor;
 mod lists;

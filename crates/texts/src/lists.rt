@@ -6,7 +6,7 @@ use crate::cursor::{Cursor, Fault, stopped};
 use crate::numbers::{read_mark, read_number};
 use crate::spans::Run;
 
-#[derive(Drop)]
+#[derive(Clone, Copy)]
 pub struct List {
     pub count: usize,
     pub next: Cursor,

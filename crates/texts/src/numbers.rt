@@ -9,20 +9,20 @@ use crate::spans::Run;
 // One more than the largest number: where a longer number is held while its digits are read.
 const TOO_LARGE: u64 = 4294967296;
 
-#[derive(Drop)]
+#[derive(Clone, Copy)]
 pub struct Number {
     pub value: u32,
     pub next: Cursor,
 }
 
-#[derive(Drop)]
+#[derive(Clone, Copy)]
 pub struct Mark {
     pub is_set: bool,
     pub next: Cursor,
 }
 
 // How often what follows stands there; 0 only where reading has stopped.
-#[derive(Drop)]
+#[derive(Clone, Copy)]
 pub struct Times {
     pub count: u32,
     pub next: Cursor,

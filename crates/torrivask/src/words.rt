@@ -4,13 +4,13 @@ ghost use Rattle.torrivask.specs.Words.{space_as, size_as, alignment_as};
 
 use floats::{AlignContent, AvailableSpace, OptionalSize};
 
-#[derive(Drop)]
+#[derive(Clone, Copy)]
 pub(crate) enum SpaceWord {
     Listed(AvailableSpace),
     Unlisted,
 }
 
-#[derive(Drop)]
+#[derive(Clone, Copy)]
 pub(crate) enum AlignmentWord {
     Listed(AlignContent),
     Unlisted,

@@ -1,0 +1,14 @@
+-- The loop of `search_over`: what it keeps true, and what falls.
+use mathlib.Core.Path.{◌≡◌}
+use lib.ListN.{length}
+use Rattle.lines.specs.Fr as fr-rule
+use Rattle.lines.specs.Rule.{search_over}
+use Rattle.lines.specs.Rows.{lines_of}
+use Rattle.flexible.specs.Flexes.{flexes}
+use Rattle.flexible.proofs.search.search_over.Given as goal
+
+abbrev pub invariant-loop-left : goal.invariant-loop-left
+invariant-loop-left l = (length l.held ≡ length l.lines) × (fr-rule.search l.left l.space (flexes (lines_of l.lines) l.held) ≡ search_over l.space (lines_of l.lines))
+
+abbrev pub decreases-loop-left : goal.decreases-loop-left
+decreases-loop-left l = l.left

@@ -1,0 +1,12 @@
+-- The loop of `read_rows`: what it keeps true, and what falls.
+use Prim.Native.Nat.{◌-◌}
+use mathlib.Core.Path.{◌≡◌}
+use lib.ListN.{length}
+use Rattle.texts.specs.Reading.{Onward}
+use Rattle.float_vectors.proofs.rows.read_rows.Given as goal
+
+abbrev pub invariant-loop-i : goal.invariant-loop-i
+invariant-loop-i l = (length l.into ≡ length l.initial.into) × Onward l.text l.initial.next.at l.next.at
+
+abbrev pub decreases-loop-i : goal.decreases-loop-i
+decreases-loop-i l = l.count - l.i

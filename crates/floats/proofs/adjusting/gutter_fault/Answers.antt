@@ -17,4 +17,4 @@ returns-clause-result_value c =
     ∙ first-of-passed _ 12 0 _ (sym c.two_fit.ensures ∙ c.if-not-two_fit.false)
 
 pub returns-clause-gutter_inputs : goal.returns-clause-gutter_inputs
-returns-clause-gutter_inputs c = gutter-inputs c.args.inner c.args.known.now c.args.estimates.now (f32-of-size c.args.inner _ c.well-formed.0) (f32-of-slice c.args.estimates.now c.shared_slice_known-2-1.given)
+returns-clause-gutter_inputs c = gutter-inputs c.args.inner c.args.known.now c.args.estimates.now (f32-of-size c.args.inner _ c.well_formed.0) (f32-of-slice c.args.estimates.now c.shared_slice_known-2-1.given)

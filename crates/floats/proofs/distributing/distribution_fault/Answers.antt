@@ -45,6 +45,6 @@ returns-clause-distribution_inputs c =
     (omega (arith, length-tracks-numbers c.args.tracks.now)) in
     let is = outside-then 0 1 (given Size c.args.space) _ c.first.ensures c.number_fault.ensures from-tracks (omega arith) ∙ first-of-passed _ 12 0 _ fit in
     λ h.
-    distribution-inputs c.args.space c.args.tracks.now c.args.affected.now c.args.proportions.now c.args.sizes.now c.args.limits.now (f32-of-fits c.args.space c.well-formed.0.1)
+    distribution-inputs c.args.space c.args.tracks.now c.args.affected.now c.args.proportions.now c.args.sizes.now c.args.limits.now (f32-of-fits c.args.space c.well_formed.0.1)
     (c.tracks_fault.ensures.all (fine-of-first c.tracks_fault.result c.first-from_proportions.result c.first-from_tracks.ensures (fine-of-first c.number_fault.result c.first-from_tracks.result c.first.ensures (is ∙ h)).1).0)
     (f32-of-slice c.args.proportions.now c.shared_slice_known-2-1.given) (f32-of-slice c.args.sizes.now c.shared_slice_known-3-1.given) (f32-of-slice c.args.limits.now c.shared_slice_known-4-1.given) h

@@ -34,4 +34,4 @@ returns-clause-fr_inputs c =
     λ h.
     fr-inputs c.args.tracks.now c.args.flexible.now c.args.factors.now c.args.space
     (c.tracks_fault.ensures.all (fine-of-first c.tracks_fault.result c.slice_fault-from_factors.result c.first-from_tracks.ensures (fine-of-first c.number_fault.result c.first-from_tracks.result c.first.ensures (is ∙ h)).1).0)
-    (f32-of-slice c.args.factors.now c.shared_slice_known-2-1.given) (f32-of-fits c.args.space c.well-formed.1.1.1.0.1) h
+    (f32-of-slice c.args.factors.now c.shared_slice_known-2-1.given) (f32-of-fits c.args.space c.well_formed.1.1.1.0.1) h

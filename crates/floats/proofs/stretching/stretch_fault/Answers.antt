@@ -26,4 +26,4 @@ returns-clause-stretch_inputs c =
     λ h.
     stretch-inputs c.args.tracks.now c.args.autos.now c.args.minimum c.args.space
     (c.tracks_fault-from_tracks.ensures.all (fine-of-first c.space_fault.result c.tracks_fault-from_tracks.result c.first-from_space.ensures (fine-of-first c.size_fault.result c.first-from_space.result c.first.ensures (is ∙ h)).1).1)
-    (f32-of-size c.args.minimum _ c.well-formed.1.1.0) (f32-of-space c.args.space _ c.well-formed.1.1.1.0) h
+    (f32-of-size c.args.minimum _ c.well_formed.1.1.0) (f32-of-space c.args.space _ c.well_formed.1.1.1.0) h

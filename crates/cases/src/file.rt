@@ -47,11 +47,11 @@ fn print_about(program: &[u8], path: &[u8], words: &[u8]) {
     io::write_all(STDERR, b"\n");
 }
 
-// Why a call on the file failed. Where there is no memory for the reason, the line stands without it.
+// Why a call on the file failed. Where there is no memory for the reason, the line says only that it did.
 fn print_failure(rt: &HostRuntime, program: &[u8], path: &[u8], error: Error) {
     match input::reason(rt.alloc(), error) {
         Ok(words) => print_about(program, path, words.as_bytes()),
-        Err(_) => print_about(program, path, b""),
+        Err(_) => print_about(program, path, b"it cannot be read"),
     }
 }
 

@@ -13,7 +13,7 @@ use Rattle.spanned.proofs.is_measured.Goals as goal
 pub returns-then-not-is_fixed : goal.returns-then-not-is_fixed
 returns-then-not-is_fixed c =
     let told = ap not c.is_fixed.ensures ∙ ap is_unfixed c.of_row.ensures in
-    some-found is_unfixed track_of c.args.tracks.now _ c.loop-t.t [] c.loop-t-test.true c.loop-t.invariant.0 told c.if-not-is_fixed.true
+    some-found is_unfixed track_of c.args.tracks.now _ c.loop-t.t [] c.loop-t-test.true c.loop-t.invariant.0 told (ap not c.if-not-is_fixed.true)
     ∙ c.loop-t.invariant.1
     ∙ some-cut is_unfixed track_of c.args.tracks.now c.args.item.start c.args.item.span _ c.span_end-end.ensures
 
@@ -21,7 +21,7 @@ pub loop-t-preserved : goal.loop-t-preserved
 loop-t-preserved c =
     let told = ap not c.is_fixed.ensures ∙ ap is_unfixed c.of_row.ensures in (
       search rules,
-      some-passed is_unfixed track_of c.args.tracks.now _ c.loop-t.t [] c.loop-t-test.true c.loop-t.invariant.0 told c.if-not-is_fixed.false
+      some-passed is_unfixed track_of c.args.tracks.now _ c.loop-t.t [] c.loop-t-test.true c.loop-t.invariant.0 told (ap not c.if-not-is_fixed.false)
           ∙ c.loop-t.invariant.1,
     )
 

@@ -1,0 +1,28 @@
+-- `hold_short` meets its contract. The loop's invariant: the marks written, and those that the rest comes to, are all; one
+-- was short, or one of the rest is, where any is. Assumes nothing.
+use borrow.Author.Rules.{rules}
+use mathlib.Core.Path.{refl, ap}
+use mathlib.Core.Bool.{false, ◌||◌}
+use Prim.Native.Nat.{◌+◌, ◌-◌}
+use lib.ListN.{get_or, drop}
+use Rattle.laws.specs.Walk.{store_step, store-end}
+use Rattle.lines.specs.Rows.{lines_of}
+use Rattle.flexible.specs.Flexes.{held_next}
+use Rattle.flexible.proofs.Walks.{next-step, next-end, some-step, some_end}
+use Rattle.flexible.proofs.search.hold_short.Goals as goal
+
+pub loop-i-preserved : goal.loop-i-preserved
+loop-i-preserved c =
+    let mark = get_or c.loop-i.held c.loop-i.i false in (
+      search rules,
+      search rules,
+      store_step _ _ (held_next c.args.fr (lines_of (drop c.loop-i.i c.args.lines.now))) (held_next c.args.fr (lines_of (drop (c.loop-i.i + 1) c.args.lines.now))) (c.is_short-short.result || mark) false _ c.loop-i-test.true
+          (next-step c.args.lines.now c.loop-i.i c.args.fr (c.is_short-short.result || mark) mark _ (search rules) (ap (◌|| mark) c.is_short-short.ensures)) c.loop-i.invariant.2,
+      some-step c.args.fr c.args.lines.now c.loop-i.held c.loop-i.i c.loop-i.any c.is_short-short.result (c.is_short-short.result || c.loop-i.any) (c.is_short-short.result || mark) _ (search rules) (search rules) c.is_short-short.ensures refl c.loop-i.invariant.3,
+    )
+
+pub returns : goal.returns
+returns c = (
+  some_end c.args.fr c.args.lines.now c.loop-i.held c.loop-i.i _ _ (search rules) c.loop-i.invariant.3,
+  store-end _ _ (held_next c.args.fr (lines_of (drop c.loop-i.i c.args.lines.now))) _ c.loop-i-test.false (next-end c.args.lines.now c.loop-i.i c.args.fr _ (search rules)) c.loop-i.invariant.2,
+)

@@ -23,8 +23,8 @@ fault_behind bytes =
 -- ---- the same behind a count and a space, `front`
 
 module _ (front bytes : List ℕ) (long : length front ≡ tracks_at) where
-  items_at : items_at (front ++ bytes) ≡ items_behind bytes + length front
-  items_at = section-end-moved front bytes track_section 0 tracks_at (omega arith)
+  items-at : items_at (front ++ bytes) ≡ items_behind bytes + length front
+  items-at = section-end-moved front bytes track_section 0 tracks_at (omega arith)
 
   pub fault-behind : sheet_fault (front ++ bytes) ≡ first (section_fault space_section (front ++ bytes) 0) (moved_by tracks_at (fault_behind bytes))
   fault-behind =
@@ -32,8 +32,8 @@ module _ (front bytes : List ℕ) (long : length front ≡ tracks_at) where
       fault-in-order (front ++ bytes)
       ∙ ap (first (section_fault space_section (front ++ bytes) 0))
       (first-moved k (section_fault track_section bytes 0) _ _ _ (section-moved front bytes track_section 0 tracks_at (omega arith))
-      (first-moved k (section_fault item_section bytes (items_behind bytes)) _ _ _ (section-moved front bytes item_section (items_behind bytes) (items_at (front ++ bytes)) items_at)
-      (over-moved front bytes _ (sheet_end (front ++ bytes)) (section-end-moved front bytes item_section (items_behind bytes) (items_at (front ++ bytes)) items_at))))
+      (first-moved k (section_fault item_section bytes (items_behind bytes)) _ _ _ (section-moved front bytes item_section (items_behind bytes) (items_at (front ++ bytes)) items-at)
+      (over-moved front bytes _ (sheet_end (front ++ bytes)) (section-end-moved front bytes item_section (items_behind bytes) (items_at (front ++ bytes)) items-at))))
       ∙ ap (λ (places : ℕ). first (section_fault space_section (front ++ bytes) 0) (moved_by places (fault_behind bytes))) long
 
   pub tracks-behind : (sheet_at (front ++ bytes)).tracks ≡ rows_at track_record bytes (two_at bytes 0) 2
@@ -42,4 +42,4 @@ module _ (front bytes : List ℕ) (long : length front ≡ tracks_at) where
 
   pub items-behind : (sheet_at (front ++ bytes)).items ≡ rows_at item_record bytes (two_at bytes (items_behind bytes)) (items_behind bytes + 2)
   unfolding sheet_from
-  items-behind = section-rows-moved front bytes item_section (items_behind bytes) (items_at (front ++ bytes)) items_at
+  items-behind = section-rows-moved front bytes item_section (items_behind bytes) (items_at (front ++ bytes)) items-at

@@ -49,8 +49,8 @@ module _ (sheet : Sheet) (space_long : length sheet.space ≡ width space_record
   tracks-stand : Stands (sheet_bytes sheet) tracks_at (section_bytes track_record sheet.tracks) (section_bytes item_record sheet.items ++ [])
   tracks-stand = stands-front (section_bytes track_record sheet.tracks) _ behind-space
 
-  items_at : items_at (sheet_bytes sheet) ≡ items_after (length sheet.tracks)
-  items_at = section-end track_section sheet.tracks tracks_at tracks-stand
+  items-at : items_at (sheet_bytes sheet) ≡ items_after (length sheet.tracks)
+  items-at = section-end track_section sheet.tracks tracks_at tracks-stand
 
   read-space : row_at space_record (sheet_bytes sheet) 2 ≡ sheet.space
   unfolding rows_at
@@ -67,7 +67,7 @@ module _ (sheet : Sheet) (space_long : length sheet.space ≡ width space_record
     items-stand = stands-next (section_bytes track_record sheet.tracks) _ _ (omega (arith, length-tracks)) behind-space
 
     sheet-end : sheet_end (sheet_bytes sheet) ≡ sheet_size (length sheet.tracks) (length sheet.items)
-    sheet-end = rw items_at (section-end item_section sheet.items (items_after (length sheet.tracks)) items-stand)
+    sheet-end = rw items-at (section-end item_section sheet.items (items_after (length sheet.tracks)) items-stand)
 
     module _ (items_long : EachLong 7 sheet.items) where
       length-items : length (section_bytes item_record sheet.items) ≡ 2 + length sheet.items * record_size item_record
@@ -114,7 +114,7 @@ module _ (sheet : Sheet) (space_long : length sheet.space ≡ width space_record
         let long = looked-tracks-long t in
         let after = items_after (length sheet.tracks) in
         let here : section_fault item_section (sheet_bytes sheet) (items_at (sheet_bytes sheet)) ≡ items_fault sheet.items after =
-        rw items_at (section-fault item_section sheet.items after (items-stand long) (λ a. looked.at_items t (leb-true _ _ a))) in
+        rw items-at (section-fault item_section sheet.items after (items-stand long) (λ a. looked.at_items t (leb-true _ _ a))) in
         ap (λ (f : Fault). first f (over_fault (sheet_bytes sheet) (sheet_end (sheet_bytes sheet)))) here
         ∙ first-where (items_fault sheet.items after) (λ e. over-fine long (looked-items-long t e))
         ∙ first_fine (items_fault sheet.items after)
@@ -134,7 +134,7 @@ module _ (sheet : Sheet) (shaped : Shaped sheet) where
   track-count = section-count track_section sheet.tracks tracks_at (tracks-stand sheet shaped.of_space)
 
   pub item_count : two_at (sheet_bytes sheet) (items_at (sheet_bytes sheet)) ≡ length sheet.items
-  item_count = rw (items_at sheet shaped.of_space) (section-count item_section sheet.items (items_after (length sheet.tracks)) (items-stand sheet shaped.of_space shaped.of_tracks))
+  item_count = rw (items-at sheet shaped.of_space) (section-count item_section sheet.items (items_after (length sheet.tracks)) (items-stand sheet shaped.of_space shaped.of_tracks))
 
   pub written-fault : sheet_fault (sheet_bytes sheet) ≡ first (row_fault space_record sheet.space 2) (content_fault sheet.tracks sheet.items)
   written-fault =
@@ -148,7 +148,7 @@ module _ (sheet : Sheet) (shaped : Shaped sheet) where
       rw (
         read-space sheet shaped.of_space,
         section-rows track_section sheet.tracks tracks_at (tracks-stand sheet shaped.of_space) shaped.of_tracks,
-        items_at sheet shaped.of_space,
+        items-at sheet shaped.of_space,
         section-rows item_section sheet.items (items_after (length sheet.tracks)) (items-stand sheet shaped.of_space shaped.of_tracks) shaped.of_items,
       )
 

@@ -6,10 +6,10 @@ use Rattle.flexible.proofs.Lines.{expand-step, expand-end, factor-here, factors-
 use Rattle.flexible.proofs.grow.expand.Goals as goal
 
 pub loop-i-init : goal.loop-i-init
-loop-i-init c = (search rules, search rules, factors-fit _ c.requires.1, search rules)
+loop-i-init c = (search rules, search rules, factors-fit _ c.requires.lines_fit, search rules)
 
 pub flexed-requires-clause-factor_fits : goal.flexed-requires-clause-factor_fits
-flexed-requires-clause-factor_fits c = (c.requires.0, factor-here c.loop-i.lines c.loop-i.i c.loop-i.invariant.2 c.loop-i-test.true)
+flexed-requires-clause-factor_fits c = factor-here c.loop-i.lines c.loop-i.i c.loop-i.invariant.2 c.loop-i-test.true
 
 pub loop-i-preserved : goal.loop-i-preserved
 loop-i-preserved c = (

@@ -8,8 +8,6 @@ use Rattle.lines.specs.Rows.{lines_of}
 use Rattle.flexible.proofs.Lines.{fr_only}
 use Rattle.flexible.proofs.max_content.bases_fr.Given as goal
 
-)
-
 abbrev pub invariant-loop-i : goal.invariant-loop-i
 invariant-loop-i l = (l.i ≤ length l.lines) × (in_turn base_fr (fr_only (lines_of (drop l.i l.lines))) l.fr ≡ bases_fr (lines_of l.lines))
 

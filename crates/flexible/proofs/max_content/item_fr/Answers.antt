@@ -14,18 +14,18 @@ returns-then-lacks_contribution c = part_left _ c.args.row c.of_row-item.ensures
 
 pub slice_bounds-search_over-end : goal.slice_bounds-search_over-end
 slice_bounds-search_over-end c =
-    let f = part-fits _ c.args.row c.of_row-item.ensures (sym c.lacks_contribution.ensures ∙ c.if-lacks_contribution.false) _ c.of-measured.ensures (length c.args.lines.now) c.requires.1 in
+    let f = part-fits _ c.args.row c.of_row-item.ensures (sym c.lacks_contribution.ensures ∙ c.if-lacks_contribution.false) _ c.of-measured.ensures (length c.args.lines.now) c.requires.measured_fit in
     omega (arith, f.within)
 
 pub slice_bounds-search_over-end-2 : goal.slice_bounds-search_over-end-2
 slice_bounds-search_over-end-2 c =
-    let f = part-fits _ c.args.row c.of_row-item.ensures (sym c.lacks_contribution.ensures ∙ c.if-lacks_contribution.false) _ c.of-measured.ensures (length c.args.lines.now) c.requires.1 in
-    omega (arith, f.within, c.requires.0.one-length)
+    let f = part-fits _ c.args.row c.of_row-item.ensures (sym c.lacks_contribution.ensures ∙ c.if-lacks_contribution.false) _ c.of-measured.ensures (length c.args.lines.now) c.requires.measured_fit in
+    omega (arith, f.within, c.requires.store_fits.one-length)
 
 pub search_over-found-requires : goal.search_over-found-requires
 search_over-found-requires c =
-    let f = part-fits _ c.args.row c.of_row-item.ensures (sym c.lacks_contribution.ensures ∙ c.if-lacks_contribution.false) _ c.of-measured.ensures (length c.args.lines.now) c.requires.1 in
-    store-slice-fits c.args.lines.now c.args.held.now c.of-measured.result.start c.of-measured.result.span f.within c.requires.0
+    let f = part-fits _ c.args.row c.of_row-item.ensures (sym c.lacks_contribution.ensures ∙ c.if-lacks_contribution.false) _ c.of-measured.ensures (length c.args.lines.now) c.requires.measured_fit in
+    store-slice-fits c.args.lines.now c.args.held.now c.of-measured.result.start c.of-measured.result.span f.within c.requires.store_fits
 
 pub returns : goal.returns
 returns c =

@@ -1,0 +1,41 @@
+-- `content` prepares the lines and spreads the longer spans. Assumes nothing.
+use borrow.Author.Rules.{rules}
+use mathlib.Core.Path.{◌≡◌, sym, ◌∙◌, subst}
+use mathlib.Core.List.{map}
+use native.Mathlib.Omega.{arith}
+use lib.ListN.{length, length-map}
+use Rattle.kinds.specs.Kinds.{track_of}
+use Rattle.letters.proofs.Shared.{zeros-as}
+use Rattle.chains.proofs.Batches.{gathered-batches}
+use Rattle.spans.specs.Work.{Calm}
+use Rattle.spans.proofs.Calm.{singles-calm}
+use Rattle.spans.proofs.Raised.{batches-fit-as}
+use Rattle.content.proofs.Contents.{content-made}
+use Rattle.content.proofs.content.Goals as goal
+
+pub spread-requires : goal.spread-requires
+spread-requires c =
+    let ts = map track_of c.args.tracks.now in
+    let long = length-map c.args.tracks.now track_of in
+    let back = sym long in
+    let same : length c.prepare.new.1.1.1.1.1.0 ≡ length c.args.tracks.now = search rules in (
+      record {
+        few = omega (arith, c.requires.0);
+        fit = c.prepare.ensures.1;
+        none = zeros-as {m = length c.args.tracks.now} {n = length c.prepare.new.1.1.1.1.1.0} c.requires.2.none (sym same);
+        gains-long = c.requires.2.gains-long ∙ sym same;
+        rests-long = c.requires.2.rests-long ∙ sym same;
+        totals = c.prepare.ensures.3;
+      },
+      batches-fit-as c.args.items.now _ _ (same ∙ back) (gathered-batches ts c.args.items.now _ _ c.requires.1.items (search rules) c.prepare.ensures.2),
+      subst Calm (sym c.prepare.ensures.0) (singles-calm c.args.constraint _ ts),
+    )
+
+pub returns : goal.returns
+returns c =
+    let ts = map track_of c.args.tracks.now in
+    let long = length-map c.args.tracks.now track_of in
+    let back = sym long in
+    let same : length c.prepare.new.1.1.1.1.1.0 ≡ length c.args.tracks.now = search rules in
+    let entry : length c.prepare.new.1.1.1.1.1.0 ≡ length c.args.lines.now = search rules in
+    (content-made c.args.constraint ts c.args.items.now _ _ c.requires.1.items (search rules) c.prepare.ensures.2 (length c.prepare.new.1.1.1.1.1.0) _ _ (same ∙ back) c.prepare.ensures.0 c.spread.ensures.0, c.spread.ensures.1, c.prepare.ensures.2, zeros-as {m = length c.prepare.new.1.1.1.1.1.0} {n = length c.args.lines.now} c.spread.ensures.2 entry)

@@ -18,11 +18,11 @@ spread-requires c =
     let ts = map track_of c.args.tracks.now in
     let long = length-map c.args.tracks.now track_of in
     let back = sym long in
-    let same : length c.prepare.new.1.1.1.1.1.0 ≡ length c.args.tracks.now = search rules in (
+    let same : length c.prepare.new.lines ≡ length c.args.tracks.now = search rules in (
       record {
         few = omega (arith, c.requires.0);
         fit = c.prepare.ensures.1;
-        none = zeros-as {m = length c.args.tracks.now} {n = length c.prepare.new.1.1.1.1.1.0} c.requires.2.none (sym same);
+        none = zeros-as {m = length c.args.tracks.now} {n = length c.prepare.new.lines} c.requires.2.none (sym same);
         gains-long = c.requires.2.gains-long ∙ sym same;
         rests-long = c.requires.2.rests-long ∙ sym same;
         totals = c.prepare.ensures.3;
@@ -36,6 +36,6 @@ returns c =
     let ts = map track_of c.args.tracks.now in
     let long = length-map c.args.tracks.now track_of in
     let back = sym long in
-    let same : length c.prepare.new.1.1.1.1.1.0 ≡ length c.args.tracks.now = search rules in
-    let entry : length c.prepare.new.1.1.1.1.1.0 ≡ length c.args.lines.now = search rules in
-    (content-made c.args.constraint ts c.args.items.now _ _ c.requires.1.items (search rules) c.prepare.ensures.2 (length c.prepare.new.1.1.1.1.1.0) _ _ (same ∙ back) c.prepare.ensures.0 c.spread.ensures.0, c.spread.ensures.1, c.prepare.ensures.2, zeros-as {m = length c.prepare.new.1.1.1.1.1.0} {n = length c.args.lines.now} c.spread.ensures.2 entry)
+    let same : length c.prepare.new.lines ≡ length c.args.tracks.now = search rules in
+    let entry : length c.prepare.new.lines ≡ length c.args.lines.now = search rules in
+    (content-made c.args.constraint ts c.args.items.now _ _ c.requires.1.items (search rules) c.prepare.ensures.2 (length c.prepare.new.lines) _ _ (same ∙ back) c.prepare.ensures.0 c.spread.ensures.0, c.spread.ensures.1, c.prepare.ensures.2, zeros-as {m = length c.prepare.new.lines} {n = length c.args.lines.now} c.spread.ensures.2 entry)

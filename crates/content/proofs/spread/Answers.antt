@@ -14,10 +14,10 @@ use Rattle.content.proofs.spread.Goals as goal
 
 pub returns : goal.returns
 returns c =
-    let same : length c.longer.new.1.1.1.1.0 ≡ length c.args.lines.now = search rules in
+    let same : length c.longer.new.lines ≡ length c.args.lines.now = search rules in
     let at : c.fr_batch-last.result ≡ fr_batch (length c.args.lines.now) = c.fr_batch-last.ensures ∙ ap fr_batch same in
     let m = spread-made c.args.constraint (batch_at c.args.items.now c.args.heads.now c.args.nexts.now c.fr_batch-last.result) _ _ _ _ c.longer.ensures.0 c.batched.ensures.0 c.batched.ensures.1.fit c.pass_over.ensures in (
       m.0 ∙ ap (λ (k : ℕ). missing (batched_in Last c.args.constraint (batch_at c.args.items.now c.args.heads.now c.args.nexts.now k) (longer_lines c.args.constraint c.args.items.now c.args.heads.now c.args.nexts.now c.args.lines.now))) at,
       m.1,
-      zeros-as {m = length c.batched.new.1.1.1.1.1.0} {n = length c.args.lines.now} c.batched.ensures.1.none (search rules),
+      zeros-as {m = length c.batched.new.lines} {n = length c.args.lines.now} c.batched.ensures.1.none (search rules),
     )

@@ -11,10 +11,10 @@ unfolding bases_fr
 loop-i-init c = (search rules, refl)
 
 pub loop-i-preserved : goal.loop-i-preserved
-loop-i-preserved c = 
-    (
+loop-i-preserved c = (
   search rules,
   bases-step c.args.lines.now c.loop-i.i c.loop-i.fr _ c.line_fr-fr.result c.loop-i-test.true c.line_fr-fr.ensures c.loop-i.invariant.1,
+)
 
 pub returns : goal.returns
 returns c = bases-end c.args.lines.now c.loop-i.i c.loop-i.fr _ c.loop-i-test.false c.loop-i.invariant.1

@@ -1,4 +1,4 @@
--- `compare::same_tracks` meets its contract. The invariant: the two agree at every index passed. The measure is what is left.
+-- `compare::same_tracks` meets its contract. The two agree at each index, as the loop kept.
 -- Assumes nothing.
 use Prim.Native.Nat.{◌<◌}
 use mathlib.Core.List.{[]}

@@ -1,8 +1,12 @@
 // What the program prints: the counts on standard output, or the fault on standard error.
 ghost use Rattle.std.specs.Prelude.{◌≡◌, true, false, ◌≤◌, ◌<◌, ◌+◌, length};
 
-use libc::{STDERR_FILENO, STDOUT_FILENO};
 use texts::{Fault, Run};
+
+// The descriptors that the system opens for each program.
+const STDOUT: i32 = 1;
+
+pub(crate) const STDERR: i32 = 2;
 
 // How many cases there were and how many differ; of the first that differs its number, from 1,
 // and where its name stands.
@@ -59,7 +63,7 @@ impl Tally {
 
 // To standard output.
 fn tell(words: &[u8]) {
-    io::write_all(STDOUT_FILENO, words);
+    io::write_all(STDOUT, words);
 }
 
 fn print_first(text: &[u8], number: usize, name: usize)
@@ -67,7 +71,7 @@ fn print_first(text: &[u8], number: usize, name: usize)
 {
     let end = Run::Line.end(text, name);
     tell(b"first to differ: case ");
-    io::print_decimal(STDOUT_FILENO, number as u64);
+    io::print_decimal(STDOUT, number as u64);
     tell(b",");
     // The name begins with the blank after its '#'.
     tell(&text[name..end]);
@@ -79,11 +83,11 @@ pub(crate) fn print_tally(text: &[u8], tally: Tally)
 {
     let agree = tally.cases - tally.differ;
     tell(b"cases ");
-    io::print_decimal(STDOUT_FILENO, tally.cases as u64);
+    io::print_decimal(STDOUT, tally.cases as u64);
     tell(b" agree ");
-    io::print_decimal(STDOUT_FILENO, agree as u64);
+    io::print_decimal(STDOUT, agree as u64);
     tell(b" differ ");
-    io::print_decimal(STDOUT_FILENO, tally.differ as u64);
+    io::print_decimal(STDOUT, tally.differ as u64);
     tell(b"\n");
     if tally.differ > 0 {
         print_first(text, tally.first, tally.name);
@@ -92,12 +96,12 @@ pub(crate) fn print_tally(text: &[u8], tally: Tally)
 
 // To standard error. Answers as io::write_all does, and so do the functions that find the words.
 fn say(words: &[u8]) -> bool {
-    io::write_all(STDERR_FILENO, words)
+    io::write_all(STDERR, words)
 }
 
 fn print_most(most: usize) -> bool {
     say(b"the list has over ");
-    io::print_decimal(STDERR_FILENO, most as u64);
+    io::print_decimal(STDERR, most as u64);
     say(b" entries\n")
 }
 
@@ -136,7 +140,7 @@ fn print_file_words(fault: Fault) -> bool {
 pub(crate) fn print_fault(program: &[u8], at: usize, fault: Fault) {
     say(program);
     say(b": byte ");
-    io::print_decimal(STDERR_FILENO, at as u64);
+    io::print_decimal(STDERR, at as u64);
     say(b": ");
     print_words(fault);
 }

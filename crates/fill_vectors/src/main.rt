@@ -16,9 +16,9 @@ fn check_all(text: &[u8]) {
     walk.print(b"fill_vectors", text);
 }
 
-fn main() {
+fn main(rt: HostRuntime) {
     let mut text = cases::buffer();
-    let loaded = cases::load(b"fill_vectors", &mut text);
+    let loaded = cases::load(&rt, b"fill_vectors", &mut text);
     let length = loaded.length;
     if loaded.is_whole {
         check_all(&text[..length]);

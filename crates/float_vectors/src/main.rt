@@ -20,9 +20,9 @@ fn check_all(text: &[u8]) {
     walk.print(b"float_vectors", text);
 }
 
-fn main() {
+fn main(rt: HostRuntime) {
     let mut text = cases::buffer();
-    let loaded = cases::load(b"float_vectors", &mut text);
+    let loaded = cases::load(&rt, b"float_vectors", &mut text);
     let length = loaded.length;
     if loaded.is_whole {
         check_all(&text[..length]);

@@ -1,7 +1,13 @@
 // Reading an open file into lent bytes: how much of it there is, and how reading went.
 #![tactic(auto)]
 
+mod reasons;
+
+ghost use Rattle.std.specs.Prelude.{◌≡◌, IsSome, IsTrue, ◌↔◌};
 ghost use Rattle.io.specs.Counts.{IsPrefixLen};
+
+pub use reasons::reason;
+use std::io;
 
 // How reading went, and how many bytes were read.
 #[derive(Clone, Copy)]
@@ -10,26 +16,73 @@ pub struct Read {
     pub is_whole: bool,
     pub has_failed: bool,
     pub length: usize,
+    // Why reading failed, where it did.
+    pub error: Option<io::Error>,
 }
 
-// Reads until there are no more bytes, or no more that were lent. io::read_full stops at a read that fails as it does at the end, and so
-// one more byte is asked for.
-pub fn read_from(fd: i32, into: &mut [u8]) -> Read
-    ensures { IsPrefixLen result.length into.new }
-{
-    let length = io::read_full(fd, into);
-    if length == into.len() {
-        return Read {
+impl Read {
+    fn whole(length: usize) -> Read
+        ensures value { result.length ≡ length }
+        ensures error { IsTrue result.has_failed ↔ IsSome result.error }
+    {
+        Read {
             is_whole: true,
             has_failed: false,
             length,
-        };
+            error: None,
+        }
     }
+
+    fn failed(length: usize, error: io::Error) -> Read
+        ensures value { result.length ≡ length }
+        ensures error { IsTrue result.has_failed ↔ IsSome result.error }
+    {
+        Read {
+            is_whole: false,
+            has_failed: true,
+            length,
+            error: Some(error),
+        }
+    }
+
+    fn gone_on(length: usize) -> Read
+        ensures value { result.length ≡ length }
+        ensures error { IsTrue result.has_failed ↔ IsSome result.error }
+    {
+        Read {
+            is_whole: false,
+            has_failed: false,
+            length,
+            error: None,
+        }
+    }
+}
+
+// Reads until there are no more bytes, or no more that were lent. A read that fails is not tried again.
+pub fn read_from<R: io::Read>(from: &mut R, into: &mut [u8]) -> Read
+    ensures in_bounds { IsPrefixLen result.length into.new }
+    ensures error { IsTrue result.has_failed ↔ IsSome result.error }
+{
+    let mut length = 0;
+    while length < into.len() {
+        match from.read(&mut into[length..]) {
+            Ok(0) => return read_past_end(from, length),
+            Ok(n) => length += n,
+            Err(e) => return Read::failed(length, e),
+        }
+    }
+    Read::whole(length)
+}
+
+// A terminal goes on behind its end, and what was read of it is not all: one more byte is asked for.
+fn read_past_end<R: io::Read>(from: &mut R, length: usize) -> Read
+    ensures value { result.length ≡ length }
+    ensures error { IsTrue result.has_failed ↔ IsSome result.error }
+{
     let mut one_more = [0u8; 1];
-    let got = libc::read(fd, &mut one_more);
-    Read {
-        is_whole: got == 0,
-        has_failed: got < 0,
-        length,
+    match from.read(&mut one_more) {
+        Ok(0) => Read::whole(length),
+        Ok(_) => Read::gone_on(length),
+        Err(e) => Read::failed(length, e),
     }
 }

@@ -19,9 +19,9 @@ fn check_all(text: &[u8]) {
     walk.print(b"sheet_vectors", text);
 }
 
-fn main() {
+fn main(rt: HostRuntime) {
     let mut text = cases::buffer();
-    let loaded = cases::load(b"sheet_vectors", &mut text);
+    let loaded = cases::load(&rt, b"sheet_vectors", &mut text);
     let length = loaded.length;
     if loaded.is_whole {
         check_all(&text[..length]);

@@ -1,0 +1,13 @@
+-- `answer`: what was printed stands within its bytes.
+use Rattle.std.proofs.Common.{sym}
+use Rattle.std.proofs.lemmas.List.{length-take-le}
+use Rattle.printed.proofs.Within.{sheet-within}
+use Rattle.reader.proofs.answer.Goals as goal
+
+pub slice_bounds-text-end : goal.slice_bounds-text-end
+slice_bounds-text-end c = sheet-within c.print_sheet-made.result c.in-Printed.length c.print_sheet-made.new.into c.in-Printed.is _ _ c.print_sheet-made.ensures
+
+pub slice_bounds-write_out-end : goal.slice_bounds-write_out-end
+slice_bounds-write_out-end c =
+    sym
+    (length-take-le _ _ (sheet-within c.print_sheet-made.result c.in-Printed.length c.print_sheet-made.new.into c.in-Printed.is _ _ c.print_sheet-made.ensures))

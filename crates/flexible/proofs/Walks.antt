@@ -10,7 +10,6 @@ use Rattle.laws.specs.Sums.{sum}
 use Rattle.laws.specs.Walk.{next, kept}
 use Rattle.kinds.specs.Kinds.{Row, maximum_number}
 use Rattle.kinds.specs.declared.track.Maximum.{Maximum}
-use Rattle.spanned.specs.Rule.{is_fr}
 use Rattle.lines.specs.declared.line.Line.{Line}
 use Rattle.lines.specs.declared.fr.Fr.{Fr}
 use Rattle.lines.specs.Rule.{number}

@@ -7,7 +7,7 @@ use Rattle.rounds.specs.Rests.{caps, open_rests, State, state_of, fill_rests, lo
 use Rattle.rounds.proofs.Caps.{caps-length-tracks, lost-le, lost-length}
 use Rattle.rounds.proofs.RestRounds.{done-cases}
 use Rattle.rounds.proofs.Level.{fill_done, fill-length, fill-sum}
-use Rattle.rounds.proofs.Tied.{Fresh, Agree, fresh-agrees}
+use Rattle.rounds.proofs.Tied.{Fresh, fresh-agrees}
 
 -- where no rest is open, every cap is lost
 sum-lost : (cs xs : List ℕ) → length xs ≡ length cs → open_rests xs ≡ 0 → sum (lost cs xs) ≡ sum cs

@@ -5,7 +5,7 @@ use native.Mathlib.Nat.{min-le_left}
 use Rattle.laws.specs.Marks.{bit, number}
 use Rattle.laws.specs.Runs.{runs-tied}
 use Rattle.laws.specs.Lists.{All}
-use Rattle.rounds.specs.Rule.{Room, up_to, no_limit, Track, track_of, tracks_of, gains_of, has_room, opens, lower, least_room, within, odd_takers, takes, hand_out, Fill, fill_of, round, more, fill, fill_lists}
+use Rattle.rounds.specs.Rule.{Room, up_to, no_limit, Track, tracks_of, gains_of, has_room, opens, lower, least_room, within, odd_takers, takes, hand_out, Fill, fill_of, round, more, fill, fill_lists}
 use Rattle.rounds.specs.Rests.{cap_of, caps, open_rests, lowered, least_rest, take_each, open_marks, take_marked, take_odd, State, state_of, share_of, rest_round, rest_more, fill_rests, lost}
 use Rattle.rounds.proofs.OpenMarks.{Among, none, one, number-open, odd-among}
 use Rattle.rounds.proofs.RestRounds.{lowered-le, more_left, more-open}

@@ -1,7 +1,6 @@
 -- What the sizing reads of a sheet: of the space its expansion space, of each track the one that is sized. The constraint, whether to
 -- stretch, and the items are read as they are. This page follows the build paper, the first sentence of its step 6 among it. It
 -- assumes nothing of the code and it computes.
-use Rattle.std.specs.Prelude.{ℕ}
 use Rattle.kinds.specs.Kinds.{track}
 use Rattle.kinds.specs.declared.amount.Amount.{Amount}
 use Rattle.kinds.specs.declared.amount.Amount.TheVariants.{Absent, Given}

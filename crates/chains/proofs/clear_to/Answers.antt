@@ -2,7 +2,7 @@
 use borrow.Author.Rules.{rules}
 use mathlib.Core.Path.{refl}
 use mathlib.Core.List.{List}
-use Prim.Native.Nat.{ℕ, ◌-◌}
+use Prim.Native.Nat.{ℕ}
 use lib.ListN.{length, replicate, length-set}
 use Rattle.laws.specs.Walk.{store_step}
 use Rattle.chains.proofs.clear_to.Goals as goal

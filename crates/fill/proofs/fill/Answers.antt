@@ -1,5 +1,4 @@
 -- `fill` meets its promise: each answer is a case of the call. Assumes nothing.
-use borrow.Author.Tests.{not-true, not-false}
 use mathlib.Core.Path.{sym, ap, ◌∙◌}
 use lib.Dec.{ltb}
 use Rattle.fill.specs.Rule.{most_dots}

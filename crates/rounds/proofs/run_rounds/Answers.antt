@@ -1,5 +1,5 @@
 -- `run_rounds` meets its contract. The loop's invariant: the rounds still to come lead to the fill's end. Assumes nothing.
-use Rattle.std.proofs.Common.{◌≡◌, ◌-◌, ◌<◌, sym, ◌∙◌, arith, rules}
+use Rattle.std.proofs.Common.{◌≡◌, ◌<◌, sym, ◌∙◌, arith, rules}
 use native.Mathlib.Nat.{sub-zero}
 use Rattle.laws.specs.Runs.{runs-stop}
 use Rattle.rounds.specs.Rests.{open_rests, rest_round, rest_more, fill_rests}

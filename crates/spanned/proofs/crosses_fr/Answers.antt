@@ -3,7 +3,6 @@
 use borrow.Author.Rules.{rules}
 use mathlib.Core.Path.{ap, ◌∙◌}
 use mathlib.Core.List.{[]}
-use Prim.Native.Nat.{◌-◌}
 use Rattle.laws.specs.Spans.{some-cut, some-found, some-passed, some_end}
 use Rattle.kinds.specs.Kinds.{track_of}
 use Rattle.spanned.specs.Rule.{is_fr}

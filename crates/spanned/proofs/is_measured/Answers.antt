@@ -4,7 +4,6 @@ use borrow.Author.Rules.{rules}
 use mathlib.Core.Path.{ap, ◌∙◌}
 use mathlib.Core.List.{[]}
 use mathlib.Core.Bool.{not}
-use Prim.Native.Nat.{◌-◌}
 use Rattle.laws.specs.Spans.{some-cut, some-found, some-passed, some_end}
 use Rattle.kinds.specs.Kinds.{track_of}
 use Rattle.spanned.specs.Rule.{is_unfixed}

@@ -2,7 +2,6 @@
 use Rattle.fill.specs.Answer.{over_at}
 use borrow.Author.Rules.{rules}
 use mathlib.Core.Path.{sym, ap, ◌∙◌}
-use Prim.Native.Nat.{◌-◌}
 use native.Mathlib.Omega.{arith}
 use Rattle.fill.proofs.Turns.{over-hit, over-miss, over-end}
 use Rattle.fill.proofs.lists.first_over.Goals as goal

@@ -1,7 +1,7 @@
 -- `load` meets its contract. The loop's invariant: the caps written, and those of the tracks still to come, are all. Assumes nothing.
 use borrow.Author.Rules.{rules}
 use mathlib.Core.Path.{ap, ◌∙◌}
-use Prim.Native.Nat.{◌+◌, ◌-◌}
+use Prim.Native.Nat.{◌+◌}
 use Rattle.laws.specs.Walk.{store_step, store-end}
 use Rattle.rounds.specs.Rests.{caps}
 use Rattle.fill.specs.Answer.{cap_at}

@@ -1,7 +1,7 @@
 -- The loop of `load`: what it keeps true, and what falls.
 use mathlib.Core.Path.{◌≡◌}
 use mathlib.Core.List.{◌++◌}
-use Prim.Native.Nat.{◌+◌, ◌-◌, ◌≤◌}
+use Prim.Native.Nat.{◌-◌, ◌≤◌}
 use lib.ListN.{length, take}
 use Rattle.fill.specs.Rule.{tracks_of}
 use Rattle.rounds.specs.Rests.{caps}

@@ -1,7 +1,7 @@
 -- `to_gains` meets its contract. The loop's invariant: the gains written, and what the rest still gives, are all. Assumes nothing.
 use borrow.Author.Rules.{rules}
 use mathlib.Core.Path.{ap, ◌∙◌}
-use Prim.Native.Nat.{◌+◌, ◌-◌}
+use Prim.Native.Nat.{◌+◌}
 use Rattle.laws.specs.Walk.{store_step, store-end}
 use Rattle.rounds.specs.Rests.{caps, lost}
 use Rattle.fill.specs.Answer.{cap_at}

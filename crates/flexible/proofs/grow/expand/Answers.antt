@@ -1,6 +1,5 @@
 -- `expand` meets its contract. The loop's invariant: the lines grown, and what the rest grows to, are all. Assumes nothing.
 use borrow.Author.Rules.{rules}
-use Prim.Native.Nat.{◌-◌}
 use Rattle.flexible.proofs.Sizes.{factors-fit}
 use Rattle.flexible.proofs.Lines.{expand-step, expand-end, factor-here, factors-kept}
 use Rattle.flexible.proofs.grow.expand.Goals as goal

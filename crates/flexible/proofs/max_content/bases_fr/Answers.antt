@@ -1,7 +1,6 @@
 -- `bases_fr` meets its contract. The loop's invariant: the rest leads from the fr so far to that of all. Assumes nothing.
 use borrow.Author.Rules.{rules}
 use mathlib.Core.Path.{refl}
-use Prim.Native.Nat.{◌-◌}
 use Rattle.lines.specs.Rule.{bases_fr}
 use Rattle.flexible.proofs.Lines.{bases-step, bases-end}
 use Rattle.flexible.proofs.max_content.bases_fr.Goals as goal

@@ -1,7 +1,7 @@
 -- `max_content_fr` meets its contract. The loop's invariant: the rest of the chain leads from the fr so far to that of all. Assumes nothing.
 use borrow.Author.Rules.{rules}
 use mathlib.Core.Path.{ap}
-use Prim.Native.Nat.{◌-◌, ◌<◌}
+use Prim.Native.Nat.{◌<◌}
 use lib.ListN.{length}
 use Rattle.laws.specs.Lists.{in_turn}
 use Rattle.lines.specs.Rule.{item_fr}

@@ -1,7 +1,7 @@
 -- The loop of `hold_first`: what it keeps true, and what falls.
 use mathlib.Core.Path.{◌≡◌}
 use mathlib.Core.List.{◌++◌}
-use Prim.Native.Nat.{◌+◌, ◌-◌, ◌≤◌}
+use Prim.Native.Nat.{◌-◌, ◌≤◌}
 use lib.ListN.{length, take, drop}
 use Rattle.lines.specs.Rows.{lines_of}
 use Rattle.flexible.specs.Flexes.{held_first}

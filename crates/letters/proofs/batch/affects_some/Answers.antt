@@ -2,7 +2,6 @@
 use borrow.Author.Rules.{rules}
 use mathlib.Core.Path.{sym, ap, ◌∙◌}
 use mathlib.Core.Bool.{Bool}
-use Prim.Native.Nat.{◌-◌}
 use Rattle.lines.specs.declared.line.Line.{Line}
 use Rattle.letters.specs.Letters.{letter_of}
 use Rattle.letters.specs.Batches.{affected_in}

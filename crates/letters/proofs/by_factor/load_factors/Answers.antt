@@ -2,7 +2,7 @@
 -- are all. Assumes nothing.
 use borrow.Author.Rules.{rules}
 use mathlib.Core.List.{List}
-use Prim.Native.Nat.{ℕ, ◌+◌, ◌-◌}
+use Prim.Native.Nat.{ℕ, ◌+◌}
 use lib.ListN.{length-set}
 use Rattle.laws.specs.Walk.{store_step, store-end}
 use Rattle.letters.specs.Factors.{line_factor}

@@ -1,7 +1,7 @@
 -- The loop of `load_quotas`: what it keeps true, and what falls.
 use mathlib.Core.Path.{◌≡◌}
 use mathlib.Core.List.{◌++◌}
-use Prim.Native.Nat.{◌+◌, ◌-◌, ◌≤◌}
+use Prim.Native.Nat.{◌-◌, ◌≤◌}
 use lib.ListN.{length, take}
 use Rattle.lines.specs.ByFactor.{dots_over}
 use Rattle.letters.proofs.ByFactor.{quotas_from, over_from}

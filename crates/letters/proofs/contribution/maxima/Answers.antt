@@ -1,7 +1,7 @@
 -- `maxima` adds the maxima, front to back, while they are fixed or fit-content: those added and those to come are all. Assumes nothing.
 use borrow.Author.Rules.{rules}
 use mathlib.Core.Path.{sym, ap, ◌∙◌}
-use Prim.Native.Nat.{◌-◌, ◌≤◌}
+use Prim.Native.Nat.{◌≤◌}
 use Rattle.spanned.specs.Rule.{most_size}
 use Rattle.lines.specs.declared.line.Line.{Line}
 use Rattle.letters.specs.Letters.{fixed_maximum}

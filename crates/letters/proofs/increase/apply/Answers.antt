@@ -2,7 +2,7 @@
 use borrow.Author.Rules.{rules}
 use mathlib.Core.Path.{refl, ap, ◌∙◌}
 use mathlib.Core.List.{List, [], zip_with}
-use Prim.Native.Nat.{ℕ, ◌+◌, ◌-◌}
+use Prim.Native.Nat.{ℕ, ◌+◌}
 use lib.ListN.{length, get_or, drop, replicate, length-set}
 use Rattle.laws.specs.Walk.{store_step, store-end}
 use Rattle.lines.specs.declared.line.Line.{Line}

@@ -1,7 +1,7 @@
 -- The loop of `apply`: what it keeps true, and what falls.
 use mathlib.Core.Path.{◌≡◌}
 use mathlib.Core.List.{◌++◌, zip_with}
-use Prim.Native.Nat.{◌+◌, ◌-◌, ◌≤◌}
+use Prim.Native.Nat.{◌-◌, ◌≤◌}
 use lib.ListN.{length, take, drop, replicate}
 use Rattle.lines.specs.Rows.{lines_of}
 use Rattle.letters.specs.Letters.{letter_of}

@@ -1,6 +1,6 @@
 -- `lay_over` keeps the larger of each two, front to back. Assumes nothing.
 use borrow.Author.Rules.{rules}
-use Prim.Native.Nat.{◌+◌, ◌-◌}
+use Prim.Native.Nat.{◌+◌}
 use lib.ListN.{drop, length-set}
 use Rattle.laws.specs.Lists.{larger}
 use Rattle.laws.specs.Walk.{store_step, store-end}

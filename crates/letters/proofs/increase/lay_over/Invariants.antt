@@ -1,7 +1,7 @@
 -- The loop of `lay_over`: what it keeps true, and what falls.
 use mathlib.Core.Path.{◌≡◌}
 use mathlib.Core.List.{◌++◌}
-use Prim.Native.Nat.{◌+◌, ◌-◌, ◌≤◌}
+use Prim.Native.Nat.{◌-◌, ◌≤◌}
 use lib.ListN.{length, take, drop}
 use Rattle.laws.specs.Lists.{larger}
 use Rattle.letters.proofs.increase.lay_over.Given as goal

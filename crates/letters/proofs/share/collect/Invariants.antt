@@ -1,7 +1,7 @@
 -- The loop of `collect`: what it keeps true, and what falls.
 use mathlib.Core.Path.{◌≡◌}
 use mathlib.Core.List.{◌++◌}
-use Prim.Native.Nat.{◌+◌, ◌-◌, ◌≤◌}
+use Prim.Native.Nat.{◌-◌, ◌≤◌}
 use lib.ListN.{length, take, drop}
 use Rattle.letters.proofs.ShareSteps.{gained_from}
 use Rattle.letters.proofs.share.collect.Given as goal

@@ -1,7 +1,7 @@
 -- The loop of `load`: what it keeps true, and what falls.
 use mathlib.Core.Path.{◌≡◌}
 use mathlib.Core.List.{◌++◌}
-use Prim.Native.Nat.{◌+◌, ◌-◌, ◌≤◌}
+use Prim.Native.Nat.{◌-◌, ◌≤◌}
 use lib.ListN.{length, take}
 use Rattle.letters.specs.Shares.{track_in}
 use Rattle.letters.proofs.ShareSteps.{caps_from}

@@ -1,7 +1,7 @@
 -- The loop of `load_first`: what it keeps true, and what falls.
 use mathlib.Core.Path.{◌≡◌}
 use mathlib.Core.List.{◌++◌}
-use Prim.Native.Nat.{◌+◌, ◌-◌, ◌≤◌}
+use Prim.Native.Nat.{◌-◌, ◌≤◌}
 use lib.ListN.{length, take}
 use Rattle.lines.specs.Rule.{first_track}
 use Rattle.letters.specs.Letters.{letter_of}

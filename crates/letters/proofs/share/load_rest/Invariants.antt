@@ -1,7 +1,7 @@
 -- The loop of `load_rest`: what it keeps true, and what falls.
 use mathlib.Core.Path.{◌≡◌}
 use mathlib.Core.List.{◌++◌}
-use Prim.Native.Nat.{◌+◌, ◌-◌, ◌≤◌}
+use Prim.Native.Nat.{◌-◌, ◌≤◌}
 use lib.ListN.{length, take, drop}
 use Rattle.letters.specs.Letters.{letter_of}
 use Rattle.letters.proofs.ShareSteps.{rest_caps_from, capped_from}

@@ -2,7 +2,6 @@
 use borrow.Author.Rules.{rules}
 use mathlib.Core.Path.{sym, ap, ap₂, ◌∙◌}
 use mathlib.Core.Bool.{◌&&◌}
-use Prim.Native.Nat.{◌-◌}
 use Rattle.letters.specs.Letters.{letter_of}
 use Rattle.letters.specs.Shares.{is_taker}
 use Rattle.letters.proofs.Steps.{some-hit, some-miss, some_end}

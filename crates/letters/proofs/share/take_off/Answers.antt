@@ -1,6 +1,6 @@
 -- `take_off` takes each rest from its gain, front to back: the gains written, and those still to come, are all. Assumes nothing.
 use borrow.Author.Rules.{rules}
-use Prim.Native.Nat.{◌+◌, ◌-◌}
+use Prim.Native.Nat.{◌+◌}
 use lib.ListN.{length-set}
 use Rattle.laws.specs.Walk.{store_step, store-end}
 use Rattle.letters.proofs.ShareSteps.{lost_from, lost-step, lost-nil}

@@ -1,7 +1,7 @@
 -- The loop of `take_off`: what it keeps true, and what falls.
 use mathlib.Core.Path.{◌≡◌}
 use mathlib.Core.List.{◌++◌}
-use Prim.Native.Nat.{◌+◌, ◌-◌, ◌≤◌}
+use Prim.Native.Nat.{◌-◌, ◌≤◌}
 use lib.ListN.{length, take, drop}
 use Rattle.rounds.specs.Rests.{lost}
 use Rattle.letters.proofs.ShareSteps.{lost_from}

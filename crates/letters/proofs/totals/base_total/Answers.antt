@@ -1,7 +1,7 @@
 -- `base_total` adds the bases, front to back: those added and those to come are all. Assumes nothing.
 use borrow.Author.Rules.{rules}
 use mathlib.Core.Path.{ap}
-use Prim.Native.Nat.{ℕ, ◌-◌}
+use Prim.Native.Nat.{ℕ}
 use Rattle.lines.specs.declared.line.Line.{Line}
 use Rattle.lines.specs.Rule.{bases}
 use Rattle.letters.proofs.Steps.{total-step, total-end}

@@ -1,7 +1,7 @@
 -- `tally` writes the totals so far, then adds a line: those written and those to come are all. Assumes nothing.
 use borrow.Author.Rules.{rules}
 use mathlib.Core.Path.{refl, ap, ◌∙◌}
-use Prim.Native.Nat.{◌+◌, ◌-◌}
+use Prim.Native.Nat.{◌+◌}
 use Rattle.lines.specs.declared.line.Line.{Line}
 use Rattle.lines.specs.Rule.{limit_size}
 use Rattle.letters.proofs.Tallies.{tally-step, tally-end}

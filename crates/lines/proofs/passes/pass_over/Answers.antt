@@ -1,7 +1,6 @@
 -- `pass_over` makes the pass of every line, front to back. Assumes nothing.
 use borrow.Author.Rules.{rules}
 use mathlib.Core.List.{[]}
-use Prim.Native.Nat.{◌-◌}
 use lib.ListN.{length-set}
 use Rattle.lines.specs.Rows.{line_of, pass_of}
 use Rattle.lines.proofs.Walks.{map-step}

@@ -1,7 +1,7 @@
 -- The loop of `pass_over`: what it keeps true, and what falls.
 use mathlib.Core.Path.{◌≡◌}
 use mathlib.Core.List.{◌++◌, map}
-use Prim.Native.Nat.{◌+◌, ◌-◌, ◌≤◌}
+use Prim.Native.Nat.{◌-◌, ◌≤◌}
 use lib.ListN.{length, take, drop}
 use Rattle.lines.specs.Rows.{lines_of, pass_of}
 use Rattle.lines.proofs.passes.pass_over.Given as goal

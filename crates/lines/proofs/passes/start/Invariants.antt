@@ -1,7 +1,7 @@
 -- The loop of `start`: what it keeps true, and what falls.
 use mathlib.Core.Path.{◌≡◌}
 use mathlib.Core.List.{◌++◌, map}
-use Prim.Native.Nat.{◌+◌, ◌-◌, ◌≤◌}
+use Prim.Native.Nat.{◌-◌, ◌≤◌}
 use lib.ListN.{length, take, drop}
 use Rattle.kinds.specs.Kinds.{track_of}
 use Rattle.lines.specs.Rule.{start_line}

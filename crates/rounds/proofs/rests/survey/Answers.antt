@@ -1,6 +1,6 @@
 -- `survey` meets its contract. The loop's invariant: those counted and those still to count are all, and the least room so far, of which b is
 -- one less, lowered by the rests still to read, is the least of all. Assumes nothing.
-use Rattle.std.proofs.Common.{◌≡◌, ◌-◌, get_or, arith, rules}
+use Rattle.std.proofs.Common.{◌≡◌, get_or, arith, rules}
 use Rattle.rounds.specs.Rests.{open_rests}
 use Rattle.rounds.proofs.Turns.{open_step, open-end, least_step, least-end, lowered-less-one}
 use Rattle.rounds.proofs.rests.survey.Goals as goal

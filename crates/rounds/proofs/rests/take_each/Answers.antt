@@ -1,5 +1,5 @@
 -- `take_each` meets its contract. The loop's invariant: what is written, and what the walk makes of the rest, are the answer. Assumes nothing.
-use Rattle.std.proofs.Common.{◌-◌, refl, rules}
+use Rattle.std.proofs.Common.{refl, rules}
 use Rattle.laws.specs.Walk.{store_step, store-end}
 use Rattle.rounds.specs.Rests.{take_each}
 use Rattle.rounds.proofs.rests.take_each.Goals as goal

@@ -1,5 +1,5 @@
 -- `take_odd` meets its contract. The loop's invariant: what is written, and what the dots that are left do to the rest, are the answer. Assumes nothing.
-use Rattle.std.proofs.Common.{◌-◌, refl, ◌∙◌, rules}
+use Rattle.std.proofs.Common.{refl, ◌∙◌, rules}
 use Rattle.laws.specs.Walk.{store_step, store-end}
 use Rattle.rounds.specs.Rule.{odd_takers}
 use Rattle.rounds.specs.Rests.{open_marks, take_marked, take_odd}

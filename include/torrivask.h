@@ -1,4 +1,4 @@
-/* Torrivask's C face: the board, the fill, the sheet, and the float routines. Link with libtorrivask.a (rt staticlib torrivask), x86-64.
+/* Torrivask's C face: the board, the fill, the sheet, and the float routines. Link with libtorrivask.a (rt lib in crates/torrivask), x86-64.
  *
  * Every function answers 0, or the number of a refusal. A refusal writes its place to *place and nothing else that was lent; an answer
  * of 0 leaves *place as it was. A list is a pointer and its length, in elements or rows; at length 0 nothing is read or written through the

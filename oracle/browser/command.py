@@ -15,7 +15,7 @@ def ask(program):
     elif not chromium():
         missing = 'chromium is missing from the path (Debian: apt-get install chromium)'
     elif not os.access(READER, os.X_OK):
-        missing = 'target/bin/reader is missing: rt check reader builds it'
+        missing = 'crates/reader/out/reader is missing: rt run in crates/reader builds it'
     else:
         return map(int, words)
     print(missing, file=sys.stderr)

@@ -5,7 +5,7 @@ import tempfile
 
 from board import ROOT, sheet
 
-READER = os.path.join(ROOT, 'target', 'bin', 'reader')
+READER = os.path.join(ROOT, 'crates', 'reader', 'out', 'reader')
 RUN = os.path.join(ROOT, 'tools', 'run')  # on any processor
 
 

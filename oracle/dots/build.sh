@@ -1,10 +1,10 @@
 #!/usr/bin/env bash
 # Builds the plain Rust and its programs into target/oracle-dots. LIBRARY is the folder of libtorrivask.a, counted from the
-# repository's root; by default target/staticlib.
+# repository's root; by default crates/torrivask/out.
 #
 #     oracle/dots/build.sh [LIBRARY]
 cd "$(dirname "$0")/../.." || exit 2
-library=${1:-target/staticlib}
+library=${1:-crates/torrivask/out}
 out=target/oracle-dots
 rust=(rustc --edition 2021 -O --out-dir "$out")
 with_dots=(--extern "dots=$out/libdots.rlib")
@@ -17,7 +17,7 @@ rm -f "$out"/{replay,compare,bench,libdots.rlib,libtorrivask.rlib}
 "${rust[@]}" --crate-type rlib --crate-name dots oracle/dots/lib.rs || exit 1
 "${rust[@]}" "${with_dots[@]}" oracle/dots/replay.rs || exit 1
 if [ ! -f "$library/libtorrivask.a" ]; then
-    echo "build.sh: $library/libtorrivask.a is missing, so only replay is built; 'rt staticlib torrivask' makes it" >&2
+    echo "build.sh: $library/libtorrivask.a is missing, so only replay is built; 'rt lib' in crates/torrivask makes it" >&2
     exit 1
 fi
 "${rust[@]}" --crate-type rlib -L "native=$library" examples/rust/torrivask.rs || exit 1

@@ -2,7 +2,7 @@
 
     python3 oracle/floats/build.py SOURCES [LIBRARY]
 
-SOURCES is the folder of the Rust sources, that of taffy 0.15.1; LIBRARY is the folder of libtorrivask.a (default target/staticlib, where `rt staticlib torrivask` writes it). Both count from the repository's root.
+SOURCES is the folder of the Rust sources, that of taffy 0.15.1; LIBRARY is the folder of libtorrivask.a (default crates/torrivask/out, where `rt lib` in that crate writes it). Both count from the repository's root.
 
 No text of the Rust stands in this repository. The items named in CUTS are cut out of the sources as they stand, into
 target/oracle-floats/cut.rs, and rust.rs takes that file in when the program is compiled to target/oracle-floats/compare.
@@ -94,7 +94,7 @@ def main():
     if len(sys.argv) < 2:
         sys.exit(__doc__)
     sources = os.path.join(ROOT, sys.argv[1])
-    library = os.path.join(ROOT, sys.argv[2] if len(sys.argv) > 2 else 'target/staticlib')
+    library = os.path.join(ROOT, sys.argv[2] if len(sys.argv) > 2 else 'crates/torrivask/out')
     cut_file, program = os.path.join(OUT, 'cut.rs'), os.path.join(OUT, 'compare')
     os.makedirs(OUT, exist_ok=True)
     # No program of an earlier build is left to be run in place of one that cannot be built.

@@ -45,10 +45,10 @@ neg_of z = to_z w64 (of_z w64 (pos 0 -ℤ wide_of z))
 
 module _ (z : ℤ) (fits : SFits w32 z) where
   pub cast_fits : SFits w64 (to_z w32 (of_z w32 z))
-  cast_fits = rw (to_z-of_z fits) (sfits_widen tt fits)
+  cast_fits = rw (to_z-of_z {w = w32} fits) (sfits_widen tt fits)
 
   wide_is : wide_of z ≡ z
-  wide_is = ap (λ (y : ℤ). to_z w64 (of_z w64 y)) (to_z-of_z fits) ∙ to_z-of_z (sfits_widen tt fits)
+  wide_is = ap (λ (y : ℤ). to_z w64 (of_z w64 y)) (to_z-of_z {w = w32} fits) ∙ to_z-of_z {w = w64} (sfits_widen {w = w32} tt fits)
 
   zero-sub : pos 0 -ℤ wide_of z ≡ neg_ℤ z
   zero-sub = +ℤ_idl (neg_ℤ (wide_of z)) ∙ ap neg_ℤ wide_is
@@ -57,7 +57,7 @@ module _ (z : ℤ) (fits : SFits w32 z) where
   sub-fits = subst (SFits w64) (sym zero-sub) (record { sfits = mag-neg-lt z fits.sfits })
 
   neg_is : neg_of z ≡ neg_ℤ z
-  neg_is = to_z-of_z sub-fits ∙ zero-sub
+  neg_is = to_z-of_z {w = w64} sub-fits ∙ zero-sub
 
   pub neg-cast-fits : lt_z (wide_of z) (pos 0) ≡ true → T (non_neg (neg_of z)) × Fits w64 (nat_abs (neg_of z))
   neg-cast-fits h = (

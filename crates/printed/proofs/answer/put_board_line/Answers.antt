@@ -1,0 +1,11 @@
+-- `put_board_line`: its pieces one behind another. Assumes nothing.
+use mathlib.Core.List.{append_assoc}
+use native.Mathlib.Omega.{arith}
+use Rattle.printed.proofs.Joined.{putting-then, putting-as}
+use Rattle.printed.proofs.answer.put_board_line.Goals as goal
+
+pub returns : goal.returns
+returns c =
+    putting-as (omega arith) (simp append_assoc)
+    (putting-then (omega arith) (putting-then (omega arith) (putting-then (omega arith) (putting-then (omega arith) (putting-then (omega arith)
+    c.put_word-behind_word.ensures c.put_number-behind_tracks.ensures) c.put_word-before_free.ensures) c.put_free-behind_free.ensures) c.put_word-before_rounds.ensures) c.put_cell.ensures)

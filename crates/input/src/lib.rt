@@ -86,3 +86,26 @@ fn read_past_end<R: io::Read>(from: &mut R, length: usize) -> Read
         Err(e) => Read::failed(length, e),
     }
 }
+
+// What no clause says: that memory suffices, the system's words, and how each way of ending is told.
+#[cfg(test)]
+mod tests {
+    use super::*;
+
+    #[test]
+    fn tells_why_a_file_is_missing(rt: HostRuntime) -> io::Result<()> {
+        let words = reason(rt.alloc(), io::Error::from_raw_os_error(2))?;
+        assert_eq!(rt; words.as_str(), "No such file or directory");
+        Ok(())
+    }
+
+    #[test]
+    fn reads_to_the_end_or_until_the_room_is_full(rt: HostRuntime) {
+        let mut into = [0u8; 4];
+        let read = read_from(&mut (b"abc" as &[u8]), &mut into);
+        assert!(rt; read.is_whole && read.length == 3);
+        assert!(rt; into[0] == b'a' && into[2] == b'c');
+        let full = read_from(&mut (b"abcdef" as &[u8]), &mut into);
+        assert!(rt; full.is_whole && full.length == 4);
+    }
+}

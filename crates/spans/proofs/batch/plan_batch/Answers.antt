@@ -1,7 +1,7 @@
 -- `plan_batch` walks a chain: each item in its turn is laid over the increases. Assumes nothing.
 use borrow.Author.Rules.{rules}
 use mathlib.Core.Path.{◌∙◌}
-use Prim.Native.Nat.{◌-◌, ◌<◌}
+use Prim.Native.Nat.{◌<◌}
 use lib.ListN.{length}
 use Rattle.lines.specs.Rule.{increased_by}
 use Rattle.lines.specs.Rows.{lines_of}

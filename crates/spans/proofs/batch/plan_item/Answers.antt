@@ -5,7 +5,7 @@ use mathlib.Core.Bool.{true≢false}
 use native.Mathlib.Omega.{arith}
 use lib.Seq.{length-take-le}
 use Rattle.laws.specs.Lists.{in_turn}
-use Rattle.spans.proofs.Planned.{length-between, between-few, between-fits, extra-few, laid-over, gains-long, sums-long, spanned-rises, spanned-total, asks_nothing, affects-nothing}
+use Rattle.spans.proofs.Planned.{length-between, between-few, between-fits, extra-few, laid-over, sums-long, spanned-rises, spanned-total, asks_nothing, affects-nothing}
 use Rattle.spans.proofs.batch.plan_item.Goals as goal
 
 pub bounds-sums-a : goal.bounds-sums-a

@@ -1,7 +1,7 @@
 -- `raise_all` raises letter by letter, in order. Assumes nothing.
 use borrow.Author.Rules.{rules}
 use mathlib.Core.Path.{refl}
-use Prim.Native.Nat.{◌-◌, zero-le}
+use Prim.Native.Nat.{zero-le}
 use Rattle.lines.specs.Rows.{lines_of}
 use Rattle.lines.specs.Chains.{chained}
 use Rattle.spans.specs.Work.{letter_steps}

@@ -1,6 +1,6 @@
 -- `take_singles` takes the items of the chain, one after another: what those to come make of the lines stays the same. Assumes nothing.
 use borrow.Author.Rules.{rules}
-use Prim.Native.Nat.{◌-◌, ◌<◌}
+use Prim.Native.Nat.{◌<◌}
 use lib.ListN.{length}
 use Rattle.lines.specs.Rule.{with_item_at}
 use Rattle.lines.specs.Rows.{lines_of}

@@ -1,5 +1,4 @@
 -- `slice_fault` by its rest: what is still to look at has the fault that all of them have. Assumes nothing.
-use Prim.Native.Nat.{◌-◌}
 use native.Mathlib.Omega.{arith}
 use Rattle.float_domain.proofs.Outside.{numbers-from, numbers-end, outside-found, outside-next, outside-end}
 use Rattle.float_domain.proofs.numbers.slice_fault.Goals as goal

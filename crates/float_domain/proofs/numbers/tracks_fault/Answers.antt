@@ -1,15 +1,14 @@
 -- `tracks_fault` by its rest: what is still to look at has the fault that all of them have, and each row that was looked at holds f32 numbers.
 -- Assumes nothing.
-use mathlib.Core.Path.{sym, ◌∙◌}
 use mathlib.Core.List.{[]}
-use Prim.Native.Nat.{ℕ, ◌-◌, ◌<◌}
+use Prim.Native.Nat.{ℕ, ◌<◌}
 use native.Mathlib.Omega.{arith}
 use lib.ListN.{length}
 use borrow.Author.Count.{below_more}
 use Rattle.laws.specs.Lists.{All}
 use Rattle.laws.specs.Alls.{all-of-at}
 use Rattle.float_laws.specs.Numbers.{IsF32}
-use Rattle.float_domain.proofs.Outside.{tracks-from, tracks-end, outside-found, outside-next, outside-end, found-not-fine}
+use Rattle.float_domain.proofs.Outside.{tracks-from, tracks-end, outside-found, outside-next, outside-end}
 use Rattle.float_domain.proofs.numbers.tracks_fault.Goals as goal
 
 pub returns-then-is_found-clause-result_value : goal.returns-then-is_found-clause-result_value

@@ -7,12 +7,15 @@ use native.Mathlib.Nat.{le_of_suc-le-suc, not-suc-le-zero}
 use native.Mathlib.Numerals.{add-one}
 use native.Mathlib.Omega.{arith}
 use lib.Dec.{leb, ltb}
-use lib.ListN.{length, get_or, take, drop, set}
-use borrow.Author.Tests.{lt-ltb, le-ltb}
+use lib.ListN.{length, get_or, take, drop, set, length-drop}
+use Rattle.std.proofs.lemmas.List.{get_or-drop}
+use borrow.Author.Tests.{lt-ltb, le-ltb, leb-true}
+use Rattle.laws.specs.Alls.{all-of-at}
+use Rattle.laws.specs.Tests.{both_true}
 use Rattle.laws.specs.Sums.{sum, get_or-le-sum}
-use Rattle.edges.specs.Rule.{Fault, fine, fault, fall_fault, edges_fault, edges_of, bases_from, bases_of, changed, most_base, most_edge, update_call, edges_outcome, written, refused}
-use Rattle.edges.specs.Steps.{moved, moved_from}
-use Rattle.edges.proofs.Falls.{fall-fine, behind-fine, starts-at-zero}
+use Rattle.edges.specs.Rule.{fine, fault, fall_fault, edges_fault, edges_of, bases_from, bases_of, changed, most_base, most_edge, update_call, edges_outcome, written, refused}
+use Rattle.edges.specs.Steps.{moved, moved_from, CanMove}
+use Rattle.edges.proofs.Falls.{fall-fine, behind-fine, starts-at-zero, rises}
 use Rattle.edges.proofs.Made.{edges_from, edges-are-from}
 
 -- ---- the bases that edges tell
@@ -108,3 +111,51 @@ module _ (es : List ℕ) (t base : ℕ) (f : edges_fault es ≡ fine) (h : t + 1
           let own = base-from edge behind t l in
           let few = get_or-le-sum (bases_from edge behind) t in
           rw (n, add-one) (omega (arith, whole, zero-first, with-base, own, few))
+
+  -- the code's steps stay within what 32 bits hold
+  pub own-below-next : get_or es t 0 ≤ get_or es (t + 1) 0
+  own-below-next = rises es f t (t + 1) (omega arith) h
+
+  pub width-below-last : width_of es t ≤ get_or es (length es - 1) 0
+  width-below-last = let up = rises es f (t + 1) (length es - 1) (omega arith) (omega arith) in omega (arith, up)
+
+  pub can-move : (get_or es (length es - 1) 0 - width_of es t) + base ≤ most_edge → CanMove (t + 1) (width_of es t) base es
+  can-move l = (
+    omega arith,
+    all-of-at (λ (edge : ℕ). (width_of es t ≤ edge) × (moved (width_of es t) base edge ≤ most_edge)) (drop (t + 1) es) 0
+        (λ (i : ℕ) (k : i < length (drop (t + 1) es)).
+        let k' : i < length es - (t + 1) = simp length-drop at k in
+        let up = rises es f (t + 1) ((t + 1) + i) (omega arith) (omega arith) in
+        let on = rises es f ((t + 1) + i) (length es - 1) (omega arith) (omega arith) in
+        rw (get_or-drop (t + 1) es i 0) (omega (arith, up), omega (arith, up, on, l))),
+  )
+
+-- ---- the update, case by case as the code goes
+
+module _ (es : List ℕ) (t base : ℕ) where
+  pub update-unsorted : (entry : ℕ) → fault 15 entry ≡ edges_fault es → edges_outcome (refused 15 entry) es ≡ update_call es t base
+  unfolding update_call
+  update-unsorted entry e = rw (← e)
+
+  module _ (f : fine ≡ edges_fault es) where
+    pub update-missing : length es - 1 ≤ t → edges_outcome (refused 24 t) es ≡ update_call es t base
+    unfolding update_call
+    update-missing h = rw (← f, length-bases es, le-ltb t (length es - 1) h)
+
+    module _ (h : t < length es - 1) (w : Bool) (e : w ≡ leb base most_base && leb ((get_or es (length es - 1) 0 - width_of es t) + base) most_edge) where
+      has-track : ltb t (length (bases_of es)) ≡ true
+      has-track = rw (length-bases es, lt-ltb t (length es - 1) h)
+
+      test-total : w ≡ leb base most_base && leb (sum (changed es t base)) most_edge
+      test-total = rw (changed-total es t base (sym f) (omega arith)) e
+
+      pub update-past : w ≡ false → edges_outcome (refused 7 t) es ≡ update_call es t base
+      unfolding update_call
+      update-past n = rw (← f, has-track, ← test-total, n)
+
+      pub update-moves : w ≡ true → CanMove (t + 1) (width_of es t) base es
+      update-moves n = can-move es t base (sym f) (omega arith) (leb-true _ _ (both_true _ _ (sym e ∙ n)).1)
+
+      pub update-done : w ≡ true → (new : List ℕ) → new ≡ moved_from (t + 1) (width_of es t) base es → edges_outcome written new ≡ update_call es t base
+      unfolding update_call
+      update-done n new m = rw (← f, has-track, ← test-total, n, m, moved-is-afresh es t base (sym f) (omega arith))

@@ -1,22 +1,21 @@
 -- Edges that are made: edge by edge as the code writes them, what refuses bases, and that the check passes what is made. Assumes nothing.
 use mathlib.Core.Path.{◌≡◌, refl, sym, ap, ap₂, ◌∙◌}
-use mathlib.Core.Bool.{Bool, true, false, cond, ◌&&◌, and-eq-true_iff}
+use mathlib.Core.Bool.{Bool, true, false, ◌&&◌, and-eq-true_iff}
 use mathlib.Core.List.{List, [], ◌∷◌, ◌++◌, map}
-use Prim.Native.Nat.{ℕ, zero, suc, ◌+◌, ◌≤◌, ◌<◌}
-use native.Mathlib.Nat.{le_of_suc-le-suc}
+use Prim.Native.Nat.{ℕ, suc, ◌+◌, ◌≤◌, ◌<◌}
 use native.Mathlib.Numerals.{add-one}
 use native.Mathlib.Omega.{arith}
-use lib.Dec.{leb, ltb}
-use lib.ListN.{length, get_or, take, drop, set, length-map, drop_of_length-le, get_or-map, take-append-drop}
+use lib.Dec.{leb}
+use lib.ListN.{length, get_or, take, drop, set, length-map, drop_of_length-le, get_or-map}
 use lib.Seq.{drop-cons, set_split}
 use borrow.Author.Tests.{leb-true, le-leb, lt-leb, lt-ltb, le-ltb}
 use Rattle.laws.specs.Faults.{fine-both, fine-test}
-use Rattle.laws.specs.Lists.{up_from, map-drop}
+use Rattle.laws.specs.Lists.{up_from}
 use Rattle.laws.specs.Sums.{sum}
 use Rattle.laws.specs.Put.{onto}
 use Rattle.laws.specs.Walk.{next, store_step}
 use Rattle.kinds.specs.Kinds.{Row}
-use Rattle.edges.specs.Rule.{Fault, fine, fault, first, unless, enough, edge_of, edges_of, fall_fault, edges_fault, most_base, most_edge, limit_fault, limits_fault, bases_in, make_fault, make_call, edges_outcome, written, refused, EdgesOutcome}
+use Rattle.edges.specs.Rule.{Fault, fine, fault, first, edge_of, edges_of, most_base, most_edge, limit_fault, limits_fault, bases_in, make_call, edges_outcome, written, refused}
 use Rattle.edges.specs.Steps.{stopped_at}
 
 -- ---- the edges one after another: the first is told, and each track's base leads to the next
@@ -102,3 +101,62 @@ module _ (bs l w : List ℕ) (t edge : ℕ) (h : t < length l) (p : take t l ++ 
   put_last k =
       let e : drop t bs ≡ [] = drop_of_length-le bs k in
       set_split l t edge h ∙ ap (take t l ++◌) (ap (λ (ys : List ℕ). edge ∷ drop 1 ys) (sym (drop-cons l t 0 h))) ∙ (rw e at p)
+
+-- ---- the same of places, as the code reads them
+
+-- the base of track t
+abbrev pub base_at : List Row → ℕ → ℕ
+base_at places t = get_or (get_or places t []) 0 0
+
+module _ (places : List Row) (t edge : ℕ) (h : t < length places) where
+  in-bases : t < length (bases_in places)
+  in-bases = simp length-map h
+
+  module _ (w : Bool) (e : w ≡ leb (base_at places t) most_base && leb (edge + base_at places t) most_edge) where
+    pub past-here : w ≡ false → limits_at (bases_in places) t edge ≡ fault 7 t
+    past-here = limits-here (bases_in places) t edge in-bases w (rw (base-in places t) e)
+
+    pub past-behind : w ≡ true → limits_at (bases_in places) (t + 1) (edge + base_at places t) ≡ limits_at (bases_in places) t edge
+    past-behind n = rw (← base-in places t) (sym (limits-behind (bases_in places) t edge in-bases w (rw (base-in places t) e) n))
+
+  module _ (f : limits_at (bases_in places) t edge ≡ fine) where
+    pub room-here : edge + base_at places t ≤ most_edge
+    room-here = rw (← base-in places t) (limit-edge (bases_in places) t edge in-bases f)
+
+    pub room-behind : limits_at (bases_in places) (t + 1) (edge + base_at places t) ≡ fine
+    room-behind = rw (← base-in places t) (limits-rest (bases_in places) t edge in-bases f)
+
+  pub put-next : (l w : List ℕ) → t < length l → take t l ++ onto (edges_from edge (drop t (bases_in places))) (drop t l) ≡ w
+      → take (t + 1) (set l t edge) ++ onto (edges_from (edge + base_at places t) (drop (t + 1) (bases_in places))) (drop (t + 1) (set l t edge)) ≡ w
+  put-next l w k p = rw (← base-in places t) (put-turn (bases_in places) l w t edge k p in-bases)
+
+-- where no track is left
+module _ (places : List Row) (t edge : ℕ) (h : length places ≤ t) where
+  past-none : length (bases_in places) ≤ t
+  past-none = simp length-map h
+
+  pub past-end : limits_at (bases_in places) t edge ≡ fine
+  past-end = limits-end (bases_in places) t edge past-none
+
+  pub put-end : (l lent : List ℕ) → t < length l → take t l ++ onto (edges_from edge (drop t (bases_in places))) (drop t l) ≡ onto (edges_from 0 (bases_in places)) lent
+      → set l t edge ≡ onto (edges_of (bases_in places)) lent
+  put-end l lent k p = rw (edges-are-from (bases_in places)) (put_last (bases_in places) l _ t edge k p past-none)
+
+-- ---- making, case by case as the code goes
+
+module _ (places : List Row) (lent : List ℕ) where
+  pub make-short : length lent ≤ length places → edges_outcome (refused 6 0) lent ≡ make_call places lent
+  unfolding make_call
+  make-short h = let n : length lent < length (bases_in places) + 1 = simp length-map (omega arith) in rw (lt-leb _ _ n)
+
+  module _ (h : length places < length lent) (stop : ℕ) (s : stopped_at 7 (length places) stop ≡ limits_fault 0 0 (bases_in places)) where
+    enough-lent : leb (length (bases_in places) + 1) (length lent) ≡ true
+    enough-lent = le-leb _ _ (simp length-map (omega arith))
+
+    pub make-past : stop < length places → edges_outcome (refused 7 stop) lent ≡ make_call places lent
+    unfolding make_call
+    make-past l = rw (enough-lent, ← s, lt-ltb stop (length places) l)
+
+    pub make-done : length places ≤ stop → (new : List ℕ) → new ≡ onto (edges_of (bases_in places)) lent → edges_outcome written new ≡ make_call places lent
+    unfolding make_call
+    make-done l new e = rw (enough-lent, ← s, le-ltb stop (length places) l, e)

@@ -7,11 +7,11 @@ use Prim.Native.Nat.{ℕ, zero, suc, ◌+◌, ◌-◌, ◌/◌, ◌≤◌, ◌<�
 use native.Mathlib.Nat.{le_of_suc-le-suc, not-suc-le-zero}
 use native.Mathlib.Numerals.{add-one}
 use native.Mathlib.Omega.{arith}
-use lib.Dec.{ltb, leb}
+use lib.Dec.{leb}
 use lib.ListN.{length, get_or}
 use borrow.Author.Tests.{lt-ltb, le-ltb, lt-leb, le-leb}
 use Rattle.laws.specs.Tests.{lt-or-ge}
-use Rattle.edges.specs.Rule.{Fault, fine, fall_fault, edges_fault, Touched, track, no_track, holds, scan_from, scan, lookup_call, touched}
+use Rattle.edges.specs.Rule.{fine, fault, fall_fault, edges_fault, track, no_track, holds, scan_from, scan, lookup_call, touched, lookup_refused}
 use Rattle.edges.specs.Steps.{LastUpTo}
 use Rattle.edges.proofs.Falls.{fall-fine, behind-fine, rises-from, rises, has-entry, starts-at-zero}
 
@@ -114,3 +114,8 @@ module _ (es : List ℕ) (dot : ℕ) (f : edges_fault es ≡ fine) where
     pub lookup-none : length es - 1 ≤ last → touched no_track ≡ lookup_call es dot
     unfolding lookup_call
     lookup-none h = let w = u.within in let n : last + 1 ≡ length es = omega (arith, w) in rw (f, scan-none last n u.reached)
+
+-- a list that is refused
+pub lookup-unsorted : (es : List ℕ) (dot entry : ℕ) → fault 15 entry ≡ edges_fault es → lookup_refused 15 entry ≡ lookup_call es dot
+unfolding lookup_call
+lookup-unsorted es dot entry e = rw (← e)

@@ -1,5 +1,5 @@
 -- What the code's own steps do on the way to a call's answer: where a walk stops, what narrowing finds, and how edges move. Assumes nothing.
-use Rattle.std.specs.Prelude.{Bool, true, false, cond, List, [], ◌∷◌, ◌++◌, map, ℕ, ◌+◌, ◌-◌, ◌≤◌, ◌<◌, ltb, length, get_or, take, drop}
+use Rattle.std.specs.Prelude.{Bool, true, false, cond, List, ◌++◌, map, ℕ, ◌+◌, ◌-◌, ◌≤◌, ◌<◌, ltb, length, get_or, take, drop}
 use Rattle.laws.specs.Lists.{All}
 use Rattle.edges.specs.Rule.{Fault, fine, fault, fall_fault, most_edge}
 

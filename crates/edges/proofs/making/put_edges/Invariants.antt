@@ -1,7 +1,7 @@
 -- The loop of `put_edges`: what it keeps true, and what falls.
 use mathlib.Core.Path.{◌≡◌}
 use mathlib.Core.List.{◌++◌}
-use Prim.Native.Nat.{◌+◌, ◌-◌, ◌≤◌, ◌<◌}
+use Prim.Native.Nat.{◌-◌, ◌≤◌, ◌<◌}
 use lib.ListN.{length, take, drop}
 use Rattle.laws.specs.Put.{onto}
 use Rattle.edges.specs.Rule.{fine, bases_in}

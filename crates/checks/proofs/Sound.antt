@@ -25,7 +25,7 @@ use Rattle.sheet_kinds.specs.declared.track.SheetTrack.{SheetTrack}
 use Rattle.kinds.specs.declared.item.ContributionKind.{ContributionKind}
 use Rattle.kinds.specs.declared.item.ContributionKind.TheVariants as kind
 use Rattle.kinds.specs.declared.item.Item.{Item}
-use Rattle.records.specs.Rule.{fine, fault, first}
+use Rattle.records.specs.Rule.{fine, first}
 use Rattle.checks.specs.Rule.{most_size, most_contribution, amount_over, constraint_over, minimum_over, maximum_over, space_over, track_over, item_over, is_outside, lowest_space, lowest_track, lowest_item, over_fault, first_of, record_fault}
 use Rattle.checks.specs.Fits.{SpaceFits}
 use Rattle.spanned.specs.Sound.{most_of, TrackFits, ItemFits, Sound}

@@ -6,7 +6,7 @@ use Prim.Native.Nat.{◌≤◌, ◌<◌}
 use lib.ListN.{length, drop, length-map}
 use borrow.Author.Tests.{lt-leb, le-leb}
 use Rattle.rounds.specs.Rule.{most_tracks}
-use Rattle.kinds.specs.Kinds.{Row, track_of, item_of}
+use Rattle.kinds.specs.Kinds.{Row, item_of}
 use Rattle.kinds.specs.declared.track.Track.{Track}
 use Rattle.kinds.specs.declared.constraint.Constraint.{Constraint}
 use Rattle.sheet_kinds.specs.Kinds.{sheet_track_of}

@@ -1,11 +1,11 @@
 -- What stands behind the space of a sheet is read, and refused, without a look at the space: only its places are counted from there.
 -- Assumes nothing.
-use mathlib.Core.Path.{◌≡◌, ap, ap₂, ◌∙◌}
+use mathlib.Core.Path.{◌≡◌, ap, ◌∙◌}
 use Prim.Native.Nat.{ℕ, ◌+◌}
 use native.Mathlib.Omega.{arith}
 use mathlib.Core.List.{List, ◌++◌}
 use lib.ListN.{length}
-use Rattle.sheet.specs.Rule.{Row, two_at, track_record, item_record, rows_at, Fault, first, section_fault, section_end, space_section, track_section, item_section, tracks_at, items_at, sheet_end, sheet_from, sheet_at, over_fault, sheet_fault}
+use Rattle.sheet.specs.Rule.{two_at, track_record, item_record, rows_at, Fault, first, section_fault, section_end, space_section, track_section, item_section, tracks_at, items_at, sheet_end, sheet_from, sheet_at, over_fault, sheet_fault}
 use Rattle.sheet.proofs.Accepted.{fault-in-order}
 use Rattle.sheet.proofs.From.{moved_by, first-moved, section-rows-moved, section-moved, section-end-moved, over-moved}
 

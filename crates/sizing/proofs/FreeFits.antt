@@ -2,7 +2,7 @@
 -- most the expansion space each. Assumes nothing.
 use mathlib.Core.Path.{◌≡◌, sym, ap, subst, ◌∙◌}
 use mathlib.Core.Bool.{Bool}
-use mathlib.Core.List.{List, map}
+use mathlib.Core.List.{List}
 use Prim.Native.Nat.{ℕ, ◌+◌, ◌≤◌}
 use native.Mathlib.Omega.{arith}
 use lib.ListN.{length}
@@ -10,7 +10,6 @@ use lib.IntN.{ℤ, sub_ℕ}
 use mir.Syntax.{w32}
 use mir.Val.{to_z, of_z}
 use mir.Facts.{to_z-of_z}
-use Rattle.laws.specs.Sums.{sum}
 use Rattle.rounds.specs.Rule.{most_tracks, most_dots}
 use Rattle.kinds.specs.Kinds.{constraint_number}
 use Rattle.kinds.specs.declared.constraint.Constraint.{Constraint}

@@ -1,6 +1,5 @@
 -- `find_size_of_fr`: the passes that are left, from the size so far, give what all passes give. Assumes nothing.
 use mathlib.Core.Path.{sym, ◌∙◌}
-use Prim.Native.Nat.{◌-◌}
 use native.Mathlib.Omega.{arith}
 use lib.Ieee.{nan_bits}
 use Rattle.float_fr_size.proofs.Passes.{next-by-sums, passes_none, passes-held, passes-next}

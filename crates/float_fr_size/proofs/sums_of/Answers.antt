@@ -1,6 +1,5 @@
 -- `sums_of`: the sums so far are those of the tracks passed. Assumes nothing.
 use mathlib.Core.Path.{◌∙◌}
-use Prim.Native.Nat.{◌-◌}
 use native.Mathlib.Omega.{arith}
 use Rattle.laws.specs.Turns.{turns-none, turns_next}
 use Rattle.float_fr_size.specs.Fr.{add_to, add_step}

@@ -1,6 +1,5 @@
 -- `all_known`: what is left is all known just where the whole list is. Assumes nothing.
 use mathlib.Core.Path.{sym, ◌∙◌}
-use Prim.Native.Nat.{◌-◌}
 use native.Mathlib.Omega.{arith}
 use Rattle.float_gutters.proofs.Known.{every-none, every-next, every-fails}
 use Rattle.float_gutters.proofs.all_known.Goals as goal

@@ -1,6 +1,5 @@
 -- `auto_count`: the count so far and the number left are the number of marks. Assumes nothing.
 use borrow.Author.Rules.{rules}
-use Prim.Native.Nat.{◌-◌}
 use native.Mathlib.Omega.{arith}
 use lib.ListN.{get_or}
 use mathlib.Core.Bool.{false}

@@ -1,7 +1,7 @@
 -- The loop of `grow_by`: what it keeps true, and what falls.
 use mathlib.Core.Path.{◌≡◌}
 use mathlib.Core.List.{◌++◌}
-use Prim.Native.Nat.{◌+◌, ◌-◌, ◌≤◌}
+use Prim.Native.Nat.{◌-◌, ◌≤◌}
 use lib.ListN.{length, take, drop}
 use Rattle.float_stretch.specs.Stretch.{grown_by}
 use Rattle.float_stretch.proofs.grow_by.Given as goal

@@ -4,7 +4,7 @@ use borrow.Author.Rules.{rules}
 use mathlib.Core.Path.{◌≡◌, sym, ap, ◌∙◌}
 use mathlib.Core.List.{List, [], map}
 use mathlib.Core.Bool.{Bool}
-use Prim.Native.Nat.{◌+◌, ◌-◌, ℕ}
+use Prim.Native.Nat.{◌+◌, ℕ}
 use lib.ListN.{length, length-map}
 use Rattle.kinds.specs.Kinds.{Row, track_of, item_of}
 use Rattle.kinds.specs.declared.item.Item.{Item}

@@ -3,7 +3,6 @@
 use borrow.Author.Rules.{rules}
 use mathlib.Core.Path.{ap, ◌∙◌}
 use mathlib.Core.List.{[]}
-use Prim.Native.Nat.{◌-◌}
 use Rattle.sheet_kinds.specs.Kinds.{sheet_track_of}
 use Rattle.checks.specs.Rule.{track_over}
 use Rattle.checks.proofs.LowestWalk.{lowest-found, lowest-passed, lowest-end}

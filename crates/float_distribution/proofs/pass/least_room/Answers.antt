@@ -1,6 +1,5 @@
 -- `least_room`: up to i, the turns of `room_step`. Assumes nothing.
 use mathlib.Core.Path.{◌≡◌, ◌∙◌}
-use Prim.Native.Nat.{◌-◌}
 use native.Mathlib.Omega.{arith}
 use lib.Ieee.{nan_bits}
 use borrow.Author.Rules.{rules}

@@ -1,6 +1,5 @@
 -- `proportion_sum`: up to i, the turns of `proportion_step`. Assumes nothing.
 use mathlib.Core.Path.{◌≡◌, ◌∙◌}
-use Prim.Native.Nat.{◌-◌}
 use native.Mathlib.Omega.{arith}
 use Rattle.laws.specs.Turns.{turns-none, turns-round}
 use Rattle.float_laws.specs.Numbers.{minus_zero}

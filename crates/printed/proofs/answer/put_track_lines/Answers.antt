@@ -1,6 +1,5 @@
 -- `put_track_lines`, line by line: those of the first t tracks stand. Assumes nothing.
 use mathlib.Core.Path.{refl}
-use Prim.Native.Nat.{◌-◌}
 use native.Mathlib.Omega.{arith}
 use Rattle.printed.specs.Rule.{track_lines}
 use Rattle.printed.proofs.Joined.{putting-then, putting-none, putting-as}

@@ -1,7 +1,6 @@
 -- `put_name`, byte by byte: the first i bytes of the name are shown. Assumes nothing.
 use mathlib.Core.Path.{refl}
 use mathlib.Core.List.{flat_map}
-use Prim.Native.Nat.{◌-◌}
 use native.Mathlib.Omega.{arith}
 use Rattle.printed.proofs.Joined.{putting-then, putting-none, putting-as}
 use Rattle.printed.proofs.Shown.{name-turn}

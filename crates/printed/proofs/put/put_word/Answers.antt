@@ -1,5 +1,4 @@
 -- `put_word`, byte by byte: the first i bytes stand at their place. Assumes nothing.
-use Prim.Native.Nat.{◌-◌}
 use native.Mathlib.Omega.{arith}
 use lib.ListN.{length-set}
 use Rattle.printed.proofs.Turns.{word-turn}

@@ -1,6 +1,5 @@
 -- `read_items` reads the items into lent rows, one after another. Assumes nothing.
 use Rattle.sheet.specs.Rule.{record_size}
-use Prim.Native.Nat.{◌-◌}
 use Rattle.sheet.proofs.RowLoads.{loading-none, loading-turn, loading-end}
 use Rattle.sheet.proofs.reading.read_items.Goals as goal
 

@@ -1,6 +1,5 @@
 -- `read_tracks` reads the tracks into lent rows, one after another. Assumes nothing.
 use Rattle.sheet.specs.Rule.{record_size}
-use Prim.Native.Nat.{◌-◌}
 use Rattle.sheet.proofs.RowLoads.{loading-none, loading-turn, loading-end}
 use Rattle.sheet.proofs.reading.read_tracks.Goals as goal
 

@@ -1,7 +1,7 @@
 -- `put_item_rows` puts the records of the rows one after another. The loop's invariant: what is still to put, put into the bytes as
 -- they are, makes all of it. Assumes nothing.
 use borrow.Author.Rules.{rules}
-use Prim.Native.Nat.{◌-◌, ◌≤◌}
+use Prim.Native.Nat.{◌≤◌}
 use native.Mathlib.Omega.{arith}
 use lib.ListN.{length}
 use Rattle.rows.specs.Shapes.{width}

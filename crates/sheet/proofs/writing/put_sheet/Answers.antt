@@ -5,7 +5,7 @@ use Prim.Native.Nat.{ℕ}
 use Rattle.laws.specs.Put.{put}
 use Rattle.rows.proofs.KindRows.{space-fine}
 use Rattle.sheet.specs.Rule.{Row, space_record, item_record, row_fault, row_bytes, record_size}
-use Rattle.sheet.specs.Content.{items_after, section_bytes}
+use Rattle.sheet.specs.Content.{section_bytes}
 use Rattle.sheet.proofs.SheetPut.{put-parts}
 use Rattle.sheet.proofs.writing.put_sheet.Goals as goal
 

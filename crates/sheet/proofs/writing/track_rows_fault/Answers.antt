@@ -1,7 +1,6 @@
 -- `track_rows_fault` finds the first fault of the rows. The loop's invariant: what is still to look at has the fault that all the
 -- rows have. Assumes nothing.
 use borrow.Author.Rules.{rules}
-use Prim.Native.Nat.{◌-◌}
 use Rattle.sheet.specs.Rule.{track_record, record_size}
 use Rattle.sheet.proofs.RowWalks.{searched-next, searched-found, searched-end}
 use mathlib.Core.Path.{ap}

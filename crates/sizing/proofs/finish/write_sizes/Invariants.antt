@@ -1,7 +1,7 @@
 -- The loop of `write_sizes`: what it keeps true, and what falls.
 use mathlib.Core.Path.{◌≡◌}
 use mathlib.Core.List.{◌++◌}
-use Prim.Native.Nat.{◌+◌, ◌-◌, ◌≤◌}
+use Prim.Native.Nat.{◌-◌, ◌≤◌}
 use lib.ListN.{length, take}
 use Rattle.sizing.proofs.Sizes.{sizes_from}
 use Rattle.sizing.proofs.finish.write_sizes.Given as goal

@@ -1,4 +1,4 @@
--- The build paper's marked examples, W1 to W12: one table, and one claim that the checker computes. Assumes nothing: each row
+-- The build paper's marked examples, W1 to W12: one table, whose claim the checker computes (proofs/Marked.antt). Assumes nothing: each row
 -- is held against the published rules of the fill, of the sizing as a layout hands it its space and tracks, and of the board as
 -- called with bytes.
 use Rattle.std.specs.Prelude.{ℕ, Bool, true, false, ◌&&◌, eqb, ℤ, pos, negsuc}

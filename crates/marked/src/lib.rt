@@ -1,2 +1,2 @@
-// The build paper's marked examples are this crate's specs/: one table, one claim. It has no code.
+// The build paper's marked examples: one table in this crate's specs/, one claim over it in its proofs/. It has no code.
 #![tactic(auto)]

@@ -1,4 +1,4 @@
-// A list of bytes in hex: its length, then groups of bytes, two digits each; a group may be repeated, as in 3x00_ff.
+// A list of bytes in hex: its length, then groups of bytes, two digits each; a group may be repeated, as in 3x00FF.
 ghost use Rattle.std.specs.Prelude.{◌≤◌, length};
 ghost use Rattle.texts.specs.Reading.{Onward, Counted};
 

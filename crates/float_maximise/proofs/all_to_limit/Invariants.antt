@@ -1,7 +1,7 @@
 -- The loop of `all_to_limit`: what it keeps true, and what falls.
 use mathlib.Core.Path.{◌≡◌}
 use mathlib.Core.List.{◌++◌, map}
-use Prim.Native.Nat.{◌+◌, ◌-◌, ◌≤◌}
+use Prim.Native.Nat.{◌-◌, ◌≤◌}
 use lib.ListN.{length, take, drop}
 use Rattle.float_maximise.specs.Maximise.{to_limit}
 use Rattle.float_maximise.proofs.all_to_limit.Given as goal

@@ -1,7 +1,7 @@
 -- The loop of `all_with_increase`: what it keeps true, and what falls.
 use mathlib.Core.Path.{◌≡◌}
 use mathlib.Core.List.{◌++◌, map}
-use Prim.Native.Nat.{◌+◌, ◌-◌, ◌≤◌}
+use Prim.Native.Nat.{◌-◌, ◌≤◌}
 use lib.ListN.{length, take, drop}
 use Rattle.float_maximise.specs.Maximise.{with_increase}
 use Rattle.float_maximise.proofs.all_with_increase.Given as goal

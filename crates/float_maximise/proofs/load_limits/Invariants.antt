@@ -1,7 +1,7 @@
 -- The loop of `load_limits`: what it keeps true, and what falls.
 use mathlib.Core.Path.{◌≡◌}
 use mathlib.Core.List.{◌++◌}
-use Prim.Native.Nat.{◌+◌, ◌-◌, ◌≤◌}
+use Prim.Native.Nat.{◌-◌, ◌≤◌}
 use lib.ListN.{length, take, drop}
 use Rattle.float_maximise.specs.Maximise.{limits_of}
 use Rattle.float_maximise.proofs.load_limits.Given as goal

@@ -1,7 +1,7 @@
 -- The loop of `load_sizes`: what it keeps true, and what falls.
 use mathlib.Core.Path.{◌≡◌}
 use mathlib.Core.List.{◌++◌, map}
-use Prim.Native.Nat.{◌+◌, ◌-◌, ◌≤◌}
+use Prim.Native.Nat.{◌-◌, ◌≤◌}
 use lib.ListN.{length, take, drop}
 use Rattle.float_track.specs.Track.{base_size}
 use Rattle.float_maximise.proofs.load_sizes.Given as goal

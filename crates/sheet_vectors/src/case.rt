@@ -4,7 +4,7 @@ ghost use Rattle.std.specs.Prelude.{◌≤◌, length};
 ghost use Rattle.texts.specs.Reading.{Onward, Counted};
 
 use crate::compare;
-use crate::rows::read_rows;
+use crate::row_lists::read_rows;
 use crate::space::read_space;
 use cases::{Checked, Cursor, Wanted, read_bytes, read_call, read_expected};
 use sheet::SpaceRow;

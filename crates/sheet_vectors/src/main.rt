@@ -5,7 +5,7 @@
 mod answers;
 mod case;
 mod compare;
-mod rows;
+mod row_lists;
 mod space;
 
 use cases::Walk;

@@ -3,7 +3,7 @@ ghost use Rattle.std.specs.Prelude.{◌≡◌, true, ◌≤◌, length};
 ghost use Rattle.texts.specs.Reading.{Onward};
 ghost use Rattle.sheet_kinds.specs.Kinds.{space_row};
 
-use crate::rows::read_tagged;
+use crate::row_lists::read_tagged;
 use cases::{Cursor, read_number, same};
 use sheet::{Space, SpaceRow};
 

@@ -3,7 +3,7 @@ use Prim.Native.Nat.{◌-◌}
 use mathlib.Core.Path.{◌≡◌}
 use lib.ListN.{length}
 use Rattle.texts.specs.Reading.{Onward}
-use Rattle.sheet_vectors.proofs.rows.read_tracks.Given as goal
+use Rattle.sheet_vectors.proofs.row_lists.read_tracks.Given as goal
 
 abbrev pub invariant-loop-i : goal.invariant-loop-i
 invariant-loop-i l = (length l.into ≡ length l.initial.into) × Onward l.text l.initial.held.next.at l.held.next.at

@@ -16,23 +16,23 @@ use Rattle.records.specs.Answer.{refusal_fault}
 use Rattle.sheet.specs.Answer.{read_leaves, enough_rows, sheet_of}
 use Rattle.records.specs.declared.refusal.Refusal.{Refusal}
 use Rattle.records.specs.declared.refusal.Refusal.TheVariants as sheet
-use Rattle.sheet.specs.declared.reading.ReadAnswer.{ReadAnswer}
-use Rattle.sheet.specs.declared.reading.ReadAnswer.TheVariants as read
+use Rattle.sheet.specs.declared.reading.Contents.{Contents}
+use Rattle.std.specs.Prelude.{Result, Ok, Err}
 use Rattle.rows.proofs.KindRows.{space-of-row}
 use Rattle.sheet.proofs.Accepted.{accepted}
 use Rattle.sheet.proofs.ReadCall.{counts-few}
 use Rattle.sheet.proofs.Told.{SheetRead, read-fault-of-refused, sheet-of-read}
 use Rattle.layout.specs.Answer.{layout_told, layout_leaves}
 use Rattle.layout.specs.Rule.{layout_call}
-use Rattle.layout.specs.declared.LayoutAnswer.{LayoutAnswer}
+use Rattle.layout.specs.declared.Board.{Board}
+use Rattle.layout.specs.declared.refusal.Refusal as layout
 use Rattle.board.specs.Rule.{BoardTold, board_outcome, sheet_layout, board_call}
 use Rattle.sheet.specs.Few.{says_few}
 use Rattle.sheet.proofs.Few.{few-counts}
 use Rattle.board.specs.Store.{few}
 use Rattle.board.specs.Answer.{board_told, board_leaves, own, own_answer}
-use Rattle.board.specs.declared.BoardAnswer.{BoardAnswer}
+use Rattle.board.specs.declared.refusal.Refusal as own
 use Rattle.board.specs.declared.refusal.Refusal.TheVariants as refusals
-use Rattle.board.specs.declared.BoardAnswer.TheVariants as answer
 use Rattle.sheet.proofs.Numbers.{fault_number, sheet-fault-le}
 
 -- ---- refusals
@@ -68,19 +68,19 @@ module _ (bytes : List ℕ) (tracks items : List Row) where
 
 -- rows are lent before, and `ts` and `is` stand there after
 module _ (bytes : List ℕ) (tracks items : List Row) (enough : read_fault bytes tracks items ≡ sheet_fault bytes) (ts is : List Row) where
-  fault-of-refused : (a : ReadAnswer) (refusal : Refusal) → a ≡ read.Refused refusal → read_leaves a ts is ≡ read_call bytes tracks items → sheet_fault bytes ≡ refusal_fault refusal
+  fault-of-refused : (a : Result Contents Refusal) (refusal : Refusal) → a ≡ Err refusal → read_leaves a ts is ≡ read_call bytes tracks items → sheet_fault bytes ≡ refusal_fault refusal
   fault-of-refused a refusal is-refused e = sym enough ∙ read-fault-of-refused bytes tracks items a ts is e refusal is-refused
 
   -- 1 to 5
-  pub sheet-refused : (a : ReadAnswer) (refusal : Refusal) (sizes : List Row) → a ≡ read.Refused refusal → read_leaves a ts is ≡ read_call bytes tracks items
-      → board_leaves (answer.Refused (refusals.Sheet refusal)) sizes ≡ board_call bytes sizes
+  pub sheet-refused : (a : Result Contents Refusal) (refusal : Refusal) (sizes : List Row) → a ≡ Err refusal → read_leaves a ts is ≡ read_call bytes tracks items
+      → board_leaves (Err (refusals.Sheet refusal)) sizes ≡ board_call bytes sizes
   unfolding board_call
   sheet-refused a refusal sizes is-refused e = rw (fault-of-refused a refusal is-refused e)
 
   -- never 6
-  pub sheet-refused-own : (a : ReadAnswer) (refusal : Refusal) → a ≡ read.Refused refusal → read_leaves a ts is ≡ read_call bytes tracks items
-      → own_answer (answer.Refused (refusals.Sheet refusal)) ≡ answer.Refused (refusals.Sheet refusal)
-  sheet-refused-own a refusal is-refused e = ap answer.Refused (own-of-le refusal (rw (fault-of-refused a refusal is-refused e) at (sheet-fault-le bytes)))
+  pub sheet-refused-own : (a : Result Contents Refusal) (refusal : Refusal) → a ≡ Err refusal → read_leaves a ts is ≡ read_call bytes tracks items
+      → own_answer (Err (refusals.Sheet refusal)) ≡ Err (refusals.Sheet refusal)
+  sheet-refused-own a refusal is-refused e = ap Err (own-of-le refusal (rw (fault-of-refused a refusal is-refused e) at (sheet-fault-le bytes)))
 
   -- a sheet was read
   pub record BoardRead (space : Space) (n m : ℕ) : Type 0 where
@@ -89,17 +89,17 @@ module _ (bytes : List ℕ) (tracks items : List Row) (enough : read_fault bytes
     pub tracks_fit : n ≤ length tracks
     pub items_fit : m ≤ length items
 
-  pub board-read : (a : ReadAnswer) (space : Space) (n m : ℕ) → a ≡ read.Sheet space n m → read_leaves a ts is ≡ read_call bytes tracks items
-      → length ts ≡ length tracks → length is ≡ length items → BoardRead space n m
-  board-read a space n m is-sheet e lt li =
-      let rows = sheet-of-read bytes tracks items a ts is e space n m is-sheet in
-      let few = counts-few bytes tracks items a ts is space n m e is-sheet in
+  pub board-read : (a : Result Contents Refusal) (contents : Contents) → a ≡ Ok contents → read_leaves a ts is ≡ read_call bytes tracks items
+      → length ts ≡ length tracks → length is ≡ length items → BoardRead contents.space contents.tracks contents.items
+  board-read a contents is-sheet e lt li =
+      let rows = sheet-of-read bytes tracks items a ts is e contents is-sheet in
+      let few = counts-few bytes tracks items a ts is contents e is-sheet in
       record { rows = rows; few_tracks = few.0; tracks_fit = rw (← lt) rows.track_rows; items_fit = rw (← li) rows.item_rows }
 
   -- and laid out
-  pub board-of-sheet : (space : Space) (n m : ℕ) → BoardRead space n m → (sizes : List Row) (laid : LayoutAnswer) (after : List Row)
+  pub board-of-sheet : (space : Space) (n m : ℕ) → BoardRead space n m → (sizes : List Row) (laid : Result Board layout.Refusal) (after : List Row)
       → layout_leaves laid after ≡ layout_call space (map sheet_track_of (take n ts)) (map item_of (take m is)) sizes
-      → (a : BoardAnswer) → board_told a ≡ layout_told laid → board_leaves a after ≡ board_call bytes sizes
+      → (a : Result Board own.Refusal) → board_told a ≡ layout_told laid → board_leaves a after ≡ board_call bytes sizes
   unfolding board_call
   board-of-sheet space n m ok sizes laid after l a t =
       let f : sheet_fault bytes ≡ fine = sym enough ∙ ok.rows.is_fine in

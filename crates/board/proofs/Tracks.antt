@@ -14,12 +14,12 @@ use Rattle.rows.proofs.Stands.{length-rows_at}
 use Rattle.sheet.specs.Rule.{Fault, fine, fault, track_record, two_at, tracks_at, sheet_from, sheet_at, sheet_fault}
 use Rattle.sheet.proofs.Accepted.{accepted}
 use Rattle.sizing.proofs.Counted.{length-size}
-use Rattle.sizing.specs.declared.free.Free.{Free}
+use Rattle.std.specs.Prelude.{Result, Ok}
 use Rattle.layout.specs.Rule.{layout_fault, layout_as, layout_call}
 use Rattle.board.specs.Rule.{BoardTold, board, refused, BoardOutcome, board_as, board_call}
 use Rattle.board.specs.Answer.{board_told, board_leaves}
-use Rattle.board.specs.declared.BoardAnswer.{BoardAnswer}
-use Rattle.board.specs.declared.BoardAnswer.TheVariants as answer
+use Rattle.layout.specs.declared.Board.{Board}
+use Rattle.board.specs.declared.refusal.Refusal.{Refusal}
 
 abbrev pub TracksFew : BoardTold → Type 0
 TracksFew (board tracks free rounds) = tracks ≤ most_tracks
@@ -49,7 +49,7 @@ module _ (bytes : List ℕ) (sizes : List Row) where
   call-few = told-few (sheet_fault bytes) refl
 
   -- so does an answer that keeps the promise
-  pub tracks-few : (a : BoardAnswer) (left : List Row) (tracks : ℕ) (free : Free) (rounds : ℕ)
-      → board_leaves a left ≡ board_call bytes sizes → a ≡ answer.Board tracks free rounds → tracks ≤ most_tracks
-  tracks-few a left tracks free rounds e is =
+  pub tracks-few : (a : Result Board Refusal) (left : List Row) (b : Board)
+      → board_leaves a left ≡ board_call bytes sizes → a ≡ Ok b → b.tracks ≤ most_tracks
+  tracks-few a left b e is =
       subst TracksFew (sym (ap (λ (o : BoardOutcome). o.told) e) ∙ ap board_told is) call-few

@@ -8,15 +8,13 @@ use Rattle.lines.specs.Rule.{FreeTold, none, dots}
 use Rattle.records.specs.declared.refusal.Refusal.TheVariants as sheet
 use Rattle.checks.specs.declared.refusal.Refusal.TheVariants as checks
 use Rattle.sizing.specs.Size.{free_told}
-use Rattle.sizing.specs.declared.free.Free.{Free}
-use Rattle.sizing.specs.declared.free.Free.TheVariants as free
+use Rattle.std.specs.Prelude.{ℤ, Option, Some, None, Result, Ok, Err}
+use Rattle.layout.specs.declared.Board.{Board}
 use Rattle.board.specs.Rule.{BoardTold, board, refused}
 use Rattle.board.specs.Answer.{number_of, place_of, board_told, own, own_answer}
 use Rattle.board.specs.declared.refusal.Refusal.{Refusal}
 use Rattle.layout.specs.declared.refusal.Refusal.TheVariants.{LentTooShort, Record}
 use Rattle.board.specs.declared.refusal.Refusal.TheVariants.{Sheet, Layout}
-use Rattle.board.specs.declared.BoardAnswer.{BoardAnswer}
-use Rattle.board.specs.declared.BoardAnswer.TheVariants as answer
 
 -- ---- a refusal, from its number and place
 
@@ -48,24 +46,24 @@ refusal-again (Layout (Record (checks.RowFalls place))) = refl
 
 -- ---- an answer, from what it tells
 
-free_again : FreeTold → Free
-free_again none = free.None
-free_again (dots n) = free.Dots n
+free_again : FreeTold → Option ℤ
+free_again none = None
+free_again (dots n) = Some n
 
-free-again : (f : Free) → free_again (free_told f) ≡ f
+free-again : (f : Option ℤ) → free_again (free_told f) ≡ f
 unfolding free_again
-free-again free.None = refl
-free-again (free.Dots n) = refl
+free-again None = refl
+free-again (Some n) = refl
 
-answer_again : BoardTold → BoardAnswer
-answer_again (board tracks told rounds) = answer.Board tracks (free_again told) rounds
-answer_again (refused number place) = answer.Refused (refusal_of number place)
+answer_again : BoardTold → Result Board Refusal
+answer_again (board tracks told rounds) = Ok (record { tracks = tracks; free = free_again told; rounds = rounds })
+answer_again (refused number place) = Err (refusal_of number place)
 
-answer-again : (a : BoardAnswer) → answer_again (board_told a) ≡ own_answer a
+answer-again : (a : Result Board Refusal) → answer_again (board_told a) ≡ own_answer a
 unfolding answer_again
-answer-again (answer.Board tracks room rounds) = ap (λ (f : Free). answer.Board tracks f rounds) (free-again room)
-answer-again (answer.Refused refusal) = ap answer.Refused (refusal-again refusal)
+answer-again (Ok b) = ap (λ (f : Option ℤ). Ok (record { tracks = b.tracks; free = f; rounds = b.rounds })) (free-again b.free)
+answer-again (Err refusal) = ap Err (refusal-again refusal)
 
 -- so a promise kept decides the answer
-pub answer-of-told : (a b : BoardAnswer) → own_answer a ≡ a → own_answer b ≡ b → board_told a ≡ board_told b → a ≡ b
+pub answer-of-told : (a b : Result Board Refusal) → own_answer a ≡ a → own_answer b ≡ b → board_told a ≡ board_told b → a ≡ b
 answer-of-told a b oa ob e = sym oa ∙ sym (answer-again a) ∙ ap answer_again e ∙ answer-again b ∙ ob

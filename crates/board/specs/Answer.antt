@@ -1,17 +1,16 @@
 -- The code's answers in the words of the rule: each refusal by the paper's number and place, and what the call leaves.
 -- Assumes nothing.
-use Rattle.std.specs.Prelude.{ℕ, List}
+use Rattle.std.specs.Prelude.{ℕ, List, Result, Ok, Err}
 use Rattle.kinds.specs.Kinds.{Row}
 use Rattle.records.specs.Answer as records
 use Rattle.records.specs.declared.refusal.Refusal.TheVariants as refusals
 use Rattle.sizing.specs.Size.{free_told}
 use Rattle.layout.specs.Answer as layout
+use Rattle.layout.specs.declared.Board.{Board}
 use Rattle.layout.specs.declared.refusal.Refusal.TheVariants.{LentTooShort}
 use Rattle.board.specs.Rule.{BoardTold, board, refused, BoardOutcome, board_outcome}
 use Rattle.board.specs.declared.refusal.Refusal.{Refusal}
 use Rattle.board.specs.declared.refusal.Refusal.TheVariants.{Sheet, Layout}
-use Rattle.board.specs.declared.BoardAnswer.{BoardAnswer}
-use Rattle.board.specs.declared.BoardAnswer.TheVariants as answer
 
 abbrev pub number_of : Refusal → ℕ
 number_of (Sheet refusal) = records.number_of refusal
@@ -21,11 +20,11 @@ abbrev pub place_of : Refusal → ℕ
 place_of (Sheet refusal) = records.place_of refusal
 place_of (Layout refusal) = layout.place_of refusal
 
-abbrev pub board_told : BoardAnswer → BoardTold
-board_told (answer.Board tracks free rounds) = board tracks (free_told free) rounds
-board_told (answer.Refused refusal) = refused (number_of refusal) (place_of refusal)
+abbrev pub board_told : Result Board Refusal → BoardTold
+board_told (Ok b) = board b.tracks (free_told b.free) b.rounds
+board_told (Err refusal) = refused (number_of refusal) (place_of refusal)
 
-abbrev pub board_leaves : BoardAnswer → List Row → BoardOutcome
+abbrev pub board_leaves : Result Board Refusal → List Row → BoardOutcome
 board_leaves answer sizes = board_outcome (board_told answer) sizes
 
 -- ---- 6 has one name: a board lends its own rows, so a sheet never finds too few
@@ -39,6 +38,6 @@ own (Sheet (refusals.StrayNumber place)) = Sheet (refusals.StrayNumber place)
 own (Sheet refusals.LentTooShort) = Layout LentTooShort
 own (Layout refusal) = Layout refusal
 
-abbrev pub own_answer : BoardAnswer → BoardAnswer
-own_answer (answer.Board tracks room rounds) = answer.Board tracks room rounds
-own_answer (answer.Refused refusal) = answer.Refused (own refusal)
+abbrev pub own_answer : Result Board Refusal → Result Board Refusal
+own_answer (Ok b) = Ok b
+own_answer (Err refusal) = Err (own refusal)

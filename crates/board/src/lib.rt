@@ -4,29 +4,20 @@
 
 mod refusal;
 
-ghost use Rattle.std.specs.Prelude.{◌≡◌, true};
-ghost use Rattle.layout.specs.Answer.{layout_told};
-ghost use Rattle.sheet.specs.Few.{says_few};
+ghost use Rattle.std.specs.Prelude.{◌≡◌, ◌+◌, ◌≤◌};
+ghost use Rattle.rounds.specs.Rule.{most_tracks};
+ghost use Rattle.sheet.specs.Rule.{most_items};
+ghost use Rattle.lines.specs.Chains.{batches};
 ghost use Rattle.board.specs.Rule.{board_call};
-ghost use Rattle.board.specs.Store.{few, Store};
-ghost use Rattle.board.specs.Answer.{board_told, board_leaves, own_answer};
+ghost use Rattle.board.specs.Store.{Enough, Store};
+ghost use Rattle.board.specs.Answer.{board_leaves, own_answer};
 
 use chains::MORE_BATCHES;
 use kinds::{Item, Track};
-use layout::{LayoutAnswer, lay_out};
+pub use layout::Board;
+use layout::lay_out;
 pub use refusal::Refusal;
-use sheet::{ReadAnswer, says_few};
-pub use sizing::Free;
-
-#[derive(Clone, Copy)]
-pub enum BoardAnswer {
-    Board {
-        tracks: usize,
-        free: Free,
-        rounds: u32,
-    },
-    Refused(Refusal),
-}
+use sheet::says_few;
 
 // So many tracks, or items, at most work in a small store, which is cleared sooner.
 const FEW: usize = 64;
@@ -36,66 +27,44 @@ const FEW_HEADS: usize = FEW + MORE_BATCHES;
 
 const FEW_TOTALS: usize = FEW + 1;
 
-const HEADS: usize = Track::MOST + MORE_BATCHES;
+const TRACKS: usize = Track::MOST;
 
-const TOTALS: usize = Track::MOST + 1;
+const ITEMS: usize = Item::MOST;
+
+const HEADS: usize = TRACKS + MORE_BATCHES;
+
+const TOTALS: usize = TRACKS + 1;
 
 // Sizes a sheet. Base and limit of track t become `sizes[t]`; those past the tracks, and all of them after a refusal, keep what they
 // hold.
-pub fn board(bytes: &[u8], sizes: &mut [[u32; 2]]) -> BoardAnswer
+pub fn board(bytes: &[u8], sizes: &mut [[u32; 2]]) -> Result<Board, Refusal>
     ensures { (board_leaves result sizes.new ≡ board_call bytes.now sizes.old) × (own_answer result ≡ result) }
 {
     if says_few(bytes, FEW, FEW) {
-        return board_small(bytes, sizes);
+        return board_in::<FEW, FEW, FEW_HEADS, FEW_TOTALS>(bytes, sizes);
     }
-    board_large(bytes, sizes)
+    board_in::<TRACKS, ITEMS, HEADS, TOTALS>(bytes, sizes)
 }
 
-// In a store for few tracks and items.
-fn board_small(bytes: &[u8], sizes: &mut [[u32; 2]]) -> BoardAnswer
-    requires { says_few bytes.now few few ≡ true }
+// In a store for so many tracks and items, fixed memory. A const argument is not computed, so heads and totals are said too.
+fn board_in<const TRACKS: usize, const ITEMS: usize, const HEADS: usize, const TOTALS: usize>(
+    bytes: &[u8],
+    sizes: &mut [[u32; 2]],
+) -> Result<Board, Refusal>
+    requires rows { Enough bytes.now TRACKS ITEMS }
+    requires sizes { (TRACKS ≤ most_tracks) × (ITEMS ≤ most_items) × (HEADS ≡ batches TRACKS) × (TOTALS ≡ TRACKS + 1) }
     ensures { (board_leaves result sizes.new ≡ board_call bytes.now sizes.old) × (own_answer result ≡ result) }
 {
-    let mut tracks = [[0u32; 4]; FEW];
-    let mut items = [[0u32; 7]; FEW];
-    let mut heads = [0usize; FEW_HEADS];
-    let mut nexts = [0usize; FEW];
-    let mut lines = [[0u32; 8]; FEW];
-    let mut increases = [0u32; FEW];
-    let mut gains = [0u32; FEW];
-    let mut rests = [0u32; FEW];
-    let mut sums = [[0u64; 2]; FEW_TOTALS];
-    let mut held = [false; FEW];
-    board_with(
-        bytes,
-        &mut tracks,
-        &mut items,
-        &mut heads,
-        &mut nexts,
-        &mut lines,
-        &mut increases,
-        &mut gains,
-        &mut rests,
-        &mut sums,
-        &mut held,
-        sizes,
-    )
-}
-
-// In a store for the tracks and items of any sheet.
-fn board_large(bytes: &[u8], sizes: &mut [[u32; 2]]) -> BoardAnswer
-    ensures { (board_leaves result sizes.new ≡ board_call bytes.now sizes.old) × (own_answer result ≡ result) }
-{
-    let mut tracks = [[0u32; 4]; Track::MOST];
-    let mut items = [[0u32; 7]; Item::MOST];
+    let mut tracks = [[0u32; 4]; TRACKS];
+    let mut items = [[0u32; 7]; ITEMS];
     let mut heads = [0usize; HEADS];
-    let mut nexts = [0usize; Item::MOST];
-    let mut lines = [[0u32; 8]; Track::MOST];
-    let mut increases = [0u32; Track::MOST];
-    let mut gains = [0u32; Track::MOST];
-    let mut rests = [0u32; Track::MOST];
+    let mut nexts = [0usize; ITEMS];
+    let mut lines = [[0u32; 8]; TRACKS];
+    let mut increases = [0u32; TRACKS];
+    let mut gains = [0u32; TRACKS];
+    let mut rests = [0u32; TRACKS];
     let mut sums = [[0u64; 2]; TOTALS];
-    let mut held = [false; Track::MOST];
+    let mut held = [false; TRACKS];
     board_with(
         bytes,
         &mut tracks,
@@ -126,53 +95,28 @@ fn board_with(
     sums: &mut [[u64; 2]],
     held: &mut [bool],
     sizes: &mut [[u32; 2]],
-) -> BoardAnswer
+) -> Result<Board, Refusal>
     requires { Store bytes.now tracks.old items.old heads.old nexts.old lines.old increases.old gains.old rests.old sums.old held.old }
     ensures { (board_leaves result sizes.new ≡ board_call bytes.now sizes.old) × (own_answer result ≡ result) }
 {
-    let read = sheet::read(bytes, tracks, items);
-    match read {
-        ReadAnswer::Refused(refusal) => BoardAnswer::Refused(Refusal::Sheet(refusal)),
-        ReadAnswer::Sheet {
-            space,
-            tracks: n,
-            items: m,
-        } => {
-            let batches = n + MORE_BATCHES;
-            let totals = n + 1;
-            let laid_out = lay_out(
-                space,
-                &tracks[..n],
-                &items[..m],
-                &mut heads[..batches],
-                &mut nexts[..m],
-                &mut lines[..n],
-                &mut increases[..n],
-                &mut gains[..n],
-                &mut rests[..n],
-                &mut sums[..totals],
-                &mut held[..n],
-                sizes,
-            );
-            of_layout(laid_out)
-        }
-    }
-}
-
-// What a layout tells, as the board's own answer.
-fn of_layout(laid_out: LayoutAnswer) -> BoardAnswer
-    ensures { (board_told result ≡ layout_told laid_out) × (own_answer result ≡ result) }
-{
-    match laid_out {
-        LayoutAnswer::Board {
-            tracks,
-            free,
-            rounds,
-        } => BoardAnswer::Board {
-            tracks,
-            free,
-            rounds,
-        },
-        LayoutAnswer::Refused(refusal) => BoardAnswer::Refused(Refusal::Layout(refusal)),
-    }
+    let contents = sheet::read(bytes, tracks, items)?;
+    let n = contents.tracks;
+    let m = contents.items;
+    let batches = n + MORE_BATCHES;
+    let totals = n + 1;
+    let board = lay_out(
+        contents.space,
+        &tracks[..n],
+        &items[..m],
+        &mut heads[..batches],
+        &mut nexts[..m],
+        &mut lines[..n],
+        &mut increases[..n],
+        &mut gains[..n],
+        &mut rests[..n],
+        &mut sums[..totals],
+        &mut held[..n],
+        sizes,
+    )?;
+    Ok(board)
 }

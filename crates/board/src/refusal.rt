@@ -1,6 +1,7 @@
 // What refuses a board: the sheet, or the layout of what it says; with the paper's number and place of each.
 ghost use Rattle.std.specs.Prelude.{◌≡◌};
 ghost use Rattle.board.specs.Answer.{number_of, place_of};
+ghost use Rattle.board.specs.declared.refusal.Refusal.TheVariants.{Sheet, Layout};
 
 #[derive(Clone, Copy)]
 pub enum Refusal {
@@ -27,5 +28,21 @@ impl Refusal {
             Refusal::Sheet(refusal) => refusal.place(),
             Refusal::Layout(refusal) => refusal.place(),
         }
+    }
+}
+
+impl From<sheet::Refusal> for Refusal {
+    ghost from_gives = { λ refusal outer. outer ≡ Sheet refusal };
+
+    fn from(refusal: sheet::Refusal) -> Refusal {
+        Refusal::Sheet(refusal)
+    }
+}
+
+impl From<layout::Refusal> for Refusal {
+    ghost from_gives = { λ refusal outer. outer ≡ Layout refusal };
+
+    fn from(refusal: layout::Refusal) -> Refusal {
+        Refusal::Layout(refusal)
     }
 }

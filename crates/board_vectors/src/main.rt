@@ -4,24 +4,8 @@
 
 mod case;
 mod compare;
-mod sizes;
-
-use cases::Walk;
-
-fn check_all(text: &[u8]) {
-    let mut walk = Walk::new(text);
-    while walk.at < text.len() {
-        let checked = case::check_case(text, walk.case(text));
-        walk = walk.counted(text, checked);
-    }
-    walk.print(b"board_vectors", text);
-}
+mod told;
 
 fn main(rt: HostRuntime) {
-    let mut text = cases::buffer();
-    let loaded = cases::load(&rt, b"board_vectors", &mut text);
-    let length = loaded.length;
-    if loaded.is_whole {
-        check_all(&text[..length]);
-    }
+    cases::run(&rt, "board_vectors", case::check_case);
 }

@@ -1,18 +1,8 @@
-// Whether two lists of numbers are the same.
-ghost use Rattle.std.specs.Prelude.{◌≡◌, true};
+// Whether two lists of rows are the same.
+ghost use Rattle.std.specs.Prelude.{◌≡◌, IsTrue, ◌↔◌};
 
-pub fn same(a: &[u32], b: &[u32]) -> bool
-    ensures { (result ≡ true → a.now ≡ b.now) × (a.now ≡ b.now → result ≡ true) }
+pub fn same<const N: usize>(a: &[[u32; N]], b: &[[u32; N]]) -> bool
+    ensures { IsTrue result ↔ (a.now ≡ b.now) }
 {
-    if a.len() != b.len() {
-        return false;
-    }
-    let mut i = 0;
-    while i < a.len() {
-        if a[i] != b[i] {
-            return false;
-        }
-        i += 1;
-    }
-    true
+    a == b
 }

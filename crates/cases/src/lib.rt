@@ -1,19 +1,20 @@
-// Cases in a text file: reading them, walking over them, and printing how many agree. A program that runs cases adds the call
-// that it tries and the comparison. What reads the text itself is the crate texts, whose calls are handed on.
+// Cases in a text file: reading them, counting those that agree, and printing how many do. A program that runs cases adds the call
+// that it tries and the comparison. What reads the text itself is the crate texts, whose words are handed on.
 #![tactic(auto)]
 
 mod compare;
 mod file;
+mod program;
 mod report;
+mod tally;
 mod walk;
 mod wanted;
 
 pub use compare::same;
-pub use file::{Loaded, buffer, load};
-pub use report::Tally;
-pub use texts::{
-    Cursor, Fault, List, Mark, Number, Times, ended, read_bytes, read_call, read_length, read_mark,
-    read_marks, read_number, read_numbers, read_times,
-};
-pub use walk::{Checked, Walk};
-pub use wanted::{Expected, Wanted, read_expected};
+pub use file::{buffer, load};
+pub use program::run;
+pub use report::print;
+pub use tally::{First, Tally};
+pub use texts::{Fault, Stop, Text};
+pub use walk::count;
+pub use wanted::{Answer, Refused, Wanted, read_wanted};

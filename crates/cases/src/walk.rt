@@ -1,103 +1,43 @@
-// The walk over the cases of the text, with the counts of those that agree and differ.
-ghost use Rattle.std.specs.Prelude.{◌≡◌, ◌+◌, ◌≤◌, ◌<◌, length};
-ghost use Rattle.texts.specs.Reading.{Onward};
-ghost use Rattle.cases.specs.Walking.{Walking, is_clean};
+// How many cases of a text agree.
+ghost use Rattle.std.specs.Prelude.{◌<◌, IfOk, IfSome};
+ghost use Rattle.texts.specs.Reading.{Onward, AllOnward};
 
-use crate::report::{Tally, print_fault, print_tally};
-use texts::{Cursor, Fault, Run, going, stopped};
+use crate::tally::Tally;
+use texts::{Fault, Run, Stop, Text};
 
-// Whether a case agrees, and where reading it ended.
-#[derive(Clone, Copy)]
-pub struct Checked {
-    pub agrees: bool,
-    pub next: Cursor,
-}
-
-// Where the next case begins, the end of the text where there is none; the cases so far; and the fault at which the walk
-// stopped, if any.
-#[derive(Clone, Copy)]
-pub struct Walk {
-    pub at: usize,
-    pub tally: Tally,
-    pub stop: Cursor,
-}
-
-// On to the # of the next case.
-fn next_case(text: &[u8], from: usize, tally: Tally) -> Walk
-    requires { (from ≤ length text.now) × (tally.cases ≤ from) × (tally.differ ≤ tally.cases) × (tally.name ≤ from) }
-    ensures { Walking text.now result × (from ≤ result.at) }
+// On behind the # of the next case and its name, the rest of the line, which is handed on; nothing at the end of the text.
+fn next_case<'a>(text: &mut Text<'a>) -> Result<Option<&'a [u8]>, Stop>
+    ensures onward { Onward text.old result text.new }
+    ensures further { IfOk result (λ case. IfSome case (λ name. (text.old.at < text.new.at) × (text.old.at < 18446744073709551615))) }
 {
-    let at = Run::Blanks.end(text, from);
-    if at == text.len() {
-        return Walk {
-            at,
-            tally,
-            stop: going(at),
-        };
-    }
-    if text[at] != b'#' {
-        return Walk {
-            at: text.len(),
-            tally,
-            stop: stopped(at, Fault::Case),
-        };
-    }
-    Walk {
-        at,
-        tally,
-        stop: going(at),
+    text.start();
+    match text.ahead() {
+        None => Ok(None),
+        Some(b'#') => {
+            text.at += 1;
+            Ok(Some(text.take(Run::Line)))
+        }
+        Some(_) => Err(text.stop(Fault::Case)),
     }
 }
 
-impl Walk {
-    pub fn new(text: &[u8]) -> Walk
-        ensures { Walking text.now result }
-    {
-        next_case(text, 0, Tally::new())
+// `check` reads a case, from behind its name, and says whether it agrees.
+pub fn count<'a, F: Fn(&mut Text<'a>) -> Result<bool, Stop>>(
+    bytes: &'a [u8],
+    check: F,
+) -> Result<Tally<'a>, Stop>
+    requires calls { F.IsAlwaysCallable check }
+    requires cases { AllOnward (F.post check) }
+    ensures { IfOk result (λ tally. 0 < tally.cases) }
+{
+    let mut text = Text::new(bytes);
+    let mut tally = Tally::new();
+    while let Some(name) = next_case(&mut text)? {
+        let agrees = check(&mut text)?;
+        tally = tally.counted(agrees, name);
     }
-
-    // Where the numbers of the case begin: behind the line with its name.
-    pub fn case(self, text: &[u8]) -> Cursor
-        requires { self.at < length text.now }
-        ensures { Onward text.now (self.at + 1) result.at }
-    {
-        going(Run::Line.end(text, self.at + 1))
+    if tally.cases == 0 {
+        return Err(text.stop(Fault::NoCase));
     }
-
-    // The case at hand is counted, or its fault kept.
-    pub fn counted(self, text: &[u8], checked: Checked) -> Walk
-        requires { Walking text.now self × Onward text.now (self.at + 1) checked.next.at }
-        ensures { Walking text.now result × (self.at < result.at) }
-    {
-        let next = checked.next;
-        let tally = self.tally;
-        if !next.is_going() {
-            return Walk {
-                at: text.len(),
-                tally,
-                stop: next,
-            };
-        }
-        next_case(text, next.at, tally.counted(checked.agrees, self.at + 1))
-    }
-
-    // The counts on standard output, or the fault on standard error. Answers whether the run was clean.
-    pub fn print(self, program: &[u8], text: &[u8]) -> bool
-        requires { Walking text.now self }
-        ensures { result ≡ is_clean self }
-    {
-        let tally = self.tally;
-        let stop = self.stop;
-        let fault = stop.fault;
-        if !stop.is_going() {
-            print_fault(program, stop.at, fault);
-            return false;
-        }
-        if tally.cases == 0 {
-            print_fault(program, self.at, Fault::NoCase);
-            return false;
-        }
-        print_tally(text, tally);
-        tally.differ == 0
-    }
+    Ok(tally)
 }

@@ -1,34 +1,44 @@
 // What a case wants told: a refusal's number and place, or two numbers of an answer that is no refusal.
-ghost use Rattle.std.specs.Prelude.{◌≤◌, length};
+ghost use Rattle.std.specs.Prelude.{◌≡◌, true};
 ghost use Rattle.texts.specs.Reading.{Onward};
 
-use texts::{Cursor, read_mark, read_number};
+use texts::{Stop, Text};
 
 #[derive(Clone, Copy)]
-pub struct Wanted {
-    pub is_refusal: bool,
+pub struct Answer {
     pub first: u32,
     pub second: u32,
 }
 
 #[derive(Clone, Copy)]
-pub struct Expected {
-    pub wanted: Wanted,
-    pub next: Cursor,
+pub struct Refused {
+    pub number: u32,
+    pub place: u32,
 }
 
-pub fn read_expected(text: &[u8], from: Cursor) -> Expected
-    requires { from.at ≤ length text.now }
-    ensures { Onward text.now from.at result.next.at }
+pub type Wanted = Result<Answer, Refused>;
+
+impl Refused {
+    // Whether a refusal has the wanted number and place.
+    pub fn is(self, number: u32, place: usize) -> bool
+        ensures { result ≡ true → (number ≡ self.number) × (place ≡ self.place) }
+    {
+        self.number == number && self.place as usize == place
+    }
+}
+
+// A mark, whether a refusal is wanted, and two numbers.
+pub fn read_wanted(text: &mut Text) -> Result<Wanted, Stop>
+    ensures { Onward text.old result text.new }
 {
-    let kind = read_mark(text, from);
-    let first = read_number(text, kind.next);
-    let second = read_number(text, first.next);
-    let next = second.next;
-    let wanted = Wanted {
-        is_refusal: kind.is_set,
-        first: first.value,
-        second: second.value,
-    };
-    Expected { wanted, next }
+    let is_refusal = text.mark()?;
+    let first = text.number()?;
+    let second = text.number()?;
+    if is_refusal {
+        return Ok(Err(Refused {
+            number: first,
+            place: second,
+        }));
+    }
+    Ok(Ok(Answer { first, second }))
 }

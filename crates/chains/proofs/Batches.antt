@@ -8,10 +8,9 @@ use native.Mathlib.Omega.{arith}
 use lib.Dec.{eqb}
 use lib.ListN.{length, get_or, take, drop}
 use borrow.Author.Tests.{eq-eqb, ne_eqb}
+use Rattle.std.specs.Prelude.{None, Some}
 use Rattle.laws.specs.Lists.{All, keep, some}
-use Rattle.kinds.specs.Kinds.{Row, item_of, amount_number, kind_index, amount_at}
-use Rattle.kinds.specs.declared.amount.Amount.{Amount}
-use Rattle.kinds.specs.declared.amount.Amount.TheVariants.{Absent, Given}
+use Rattle.kinds.specs.Kinds.{Row, item_of, amount_number, kind_index, amount_at, Amount}
 use Rattle.kinds.specs.declared.track.Track.{Track}
 use Rattle.kinds.specs.declared.item.ContributionKind.{ContributionKind}
 use Rattle.kinds.specs.declared.item.ContributionKind.TheVariants as kind
@@ -111,7 +110,7 @@ module _ (ts : List Track) (start span : ℕ) where
   at-span : (k : ℕ) → 0 < k → k ≤ length ts + 1 → (a b c : Amount) (m f : Bool) → some is_fr (take span (drop start ts)) ≡ f
       → cond (eqb (numbered (length ts) m (lacks a b c) f span) k) (complete_of start span a b c) [] ≡ keep (in_span ts k) (cond m (complete_of start span a b c) [])
   unfolding keep
-  at-span k h l (Given x) (Given y) (Given z) true true e = rw (e, ne_eqb (fr_batch (length ts)) k (λ (d : fr_batch (length ts) ≡ k). omega arith)) (go (eqb span k))
+  at-span k h l (Some x) (Some y) (Some z) true true e = rw (e, ne_eqb (fr_batch (length ts)) k (λ (d : fr_batch (length ts) ≡ k). omega arith)) (go (eqb span k))
     where
       one : List Measured
       one = record { start = start; span = span; row = x ∷ y ∷ z ∷ [] } ∷ []
@@ -119,7 +118,7 @@ module _ (ts : List Track) (start span : ℕ) where
       go : (b : Bool) → [] ≡ cond (b && false) one []
       go true = refl
       go false = refl
-  at-span k h l (Given x) (Given y) (Given z) true false e = rw e (go (eqb span k))
+  at-span k h l (Some x) (Some y) (Some z) true false e = rw e (go (eqb span k))
     where
       one : List Measured
       one = record { start = start; span = span; row = x ∷ y ∷ z ∷ [] } ∷ []
@@ -127,20 +126,20 @@ module _ (ts : List Track) (start span : ℕ) where
       go : (b : Bool) → cond b one [] ≡ cond (b && true) one []
       go true = refl
       go false = refl
-  at-span k h l (Given x) (Given y) (Given z) false f e = rw (ne_eqb 0 k (λ (d : 0 ≡ k). omega arith)) refl
-  at-span k h l (Given x) (Given y) Absent m f e = nothing (in_span ts k) (eqb (numbered (length ts) m true f span) k) m
-  at-span k h l (Given x) Absent c m f e = nothing (in_span ts k) (eqb (numbered (length ts) m true f span) k) m
-  at-span k h l Absent b c m f e = nothing (in_span ts k) (eqb (numbered (length ts) m true f span) k) m
+  at-span k h l (Some x) (Some y) (Some z) false f e = rw (ne_eqb 0 k (λ (d : 0 ≡ k). omega arith)) refl
+  at-span k h l (Some x) (Some y) None m f e = nothing (in_span ts k) (eqb (numbered (length ts) m true f span) k) m
+  at-span k h l (Some x) None c m f e = nothing (in_span ts k) (eqb (numbered (length ts) m true f span) k) m
+  at-span k h l None b c m f e = nothing (in_span ts k) (eqb (numbered (length ts) m true f span) k) m
 
   at_last : span ≤ length ts → (a b c : Amount) (m f : Bool) → some is_fr (take span (drop start ts)) ≡ f
       → cond (eqb (numbered (length ts) m (lacks a b c) f span) (fr_batch (length ts))) (complete_of start span a b c) [] ≡ keep (on_fr ts) (cond m (complete_of start span a b c) [])
   unfolding keep
-  at_last h (Given x) (Given y) (Given z) true true e = rw (e, eq-eqb (fr_batch (length ts)) (fr_batch (length ts)) refl) refl
-  at_last h (Given x) (Given y) (Given z) true false e = rw (e, ne_eqb span (fr_batch (length ts)) (λ (d : span ≡ fr_batch (length ts)). omega arith)) refl
-  at_last h (Given x) (Given y) (Given z) false f e = rw (ne_eqb 0 (fr_batch (length ts)) (λ (d : 0 ≡ fr_batch (length ts)). omega arith)) refl
-  at_last h (Given x) (Given y) Absent m f e = nothing (on_fr ts) (eqb (numbered (length ts) m true f span) (fr_batch (length ts))) m
-  at_last h (Given x) Absent c m f e = nothing (on_fr ts) (eqb (numbered (length ts) m true f span) (fr_batch (length ts))) m
-  at_last h Absent b c m f e = nothing (on_fr ts) (eqb (numbered (length ts) m true f span) (fr_batch (length ts))) m
+  at_last h (Some x) (Some y) (Some z) true true e = rw (e, eq-eqb (fr_batch (length ts)) (fr_batch (length ts)) refl) refl
+  at_last h (Some x) (Some y) (Some z) true false e = rw (e, ne_eqb span (fr_batch (length ts)) (λ (d : span ≡ fr_batch (length ts)). omega arith)) refl
+  at_last h (Some x) (Some y) (Some z) false f e = rw (ne_eqb 0 (fr_batch (length ts)) (λ (d : 0 ≡ fr_batch (length ts)). omega arith)) refl
+  at_last h (Some x) (Some y) None m f e = nothing (on_fr ts) (eqb (numbered (length ts) m true f span) (fr_batch (length ts))) m
+  at_last h (Some x) None c m f e = nothing (on_fr ts) (eqb (numbered (length ts) m true f span) (fr_batch (length ts))) m
+  at_last h None b c m f e = nothing (on_fr ts) (eqb (numbered (length ts) m true f span) (fr_batch (length ts))) m
 
 module _ (ts : List Track) (i : Item) where
   item-at-span : (k : ℕ) → 0 < k → k ≤ length ts + 1 → cond (in_batch ts k i) (complete i) [] ≡ keep (in_span ts k) (cond (is_measured ts i) (complete i) [])
@@ -165,10 +164,10 @@ module _ (n : ℕ) where
       → amount_number a ≤ most_contribution → amount_number b ≤ most_contribution → amount_number c ≤ most_contribution
       → MeasuredFit n (complete_of start span a b c)
   unfolding All
-  complete-fits start span (Given x) (Given y) (Given z) w s f g h = (record { within = w; spans = s; contributions = three x y z f g h }, tt)
-  complete-fits start span (Given x) (Given y) Absent w s f g h = tt
-  complete-fits start span (Given x) Absent c w s f g h = tt
-  complete-fits start span Absent b c w s f g h = tt
+  complete-fits start span (Some x) (Some y) (Some z) w s f g h = (record { within = w; spans = s; contributions = three x y z f g h }, tt)
+  complete-fits start span (Some x) (Some y) None w s f g h = tt
+  complete-fits start span (Some x) None c w s f g h = tt
+  complete-fits start span None b c w s f g h = tt
 
   part-fits : (i : Item) → ItemFits n i → MeasuredFit n (complete i)
   part-fits i f =

@@ -19,26 +19,6 @@ abbrev pub numbered : (tracks : ℕ) (measured lacking on_fr : Bool) (span : ℕ
 numbered tracks measured lacking on_fr span = cond (measured && not lacking) (cond on_fr (fr_batch tracks) span) 0
 
 module _ (ts : List Track) (i : Item) where
-  pub batch-of-lacking : lacks_contribution i ≡ true → 0 ≡ batch_of ts i
-  unfolding batch_of
-  batch-of-lacking e = rw e (go (is_measured ts i) _)
-    where
-      go : (m : Bool) (n : ℕ) → 0 ≡ cond (m && not true) n 0
-      go true n = refl
-      go false n = refl
-
-  pub batch-of-unmeasured : is_measured ts i ≡ false → 0 ≡ batch_of ts i
-  unfolding batch_of
-  batch-of-unmeasured e = rw e refl
-
-  pub batch-of-last : lacks_contribution i ≡ false → is_measured ts i ≡ true → crosses_fr ts i ≡ true → fr_batch (length ts) ≡ batch_of ts i
-  unfolding batch_of
-  batch-of-last e m f = rw (e, m, f) refl
-
-  pub batch-of-span : lacks_contribution i ≡ false → is_measured ts i ≡ true → crosses_fr ts i ≡ false → i.span ≡ batch_of ts i
-  unfolding batch_of
-  batch-of-span e m f = rw (e, m, f) refl
-
   -- every number has its head
   pub batch-of-lt : (n : ℕ) → n ≡ length ts → ItemFits n i → batch_of ts i < batches (length ts)
   unfolding batch_of

@@ -6,20 +6,20 @@ use mathlib.Core.List.{List, [], ◌∷◌, map}
 use Prim.Native.Nat.{ℕ, zero, suc, ◌+◌, ◌-◌, ◌≤◌, ◌<◌}
 use native.Mathlib.Omega.{arith}
 use lib.Dec.{eqb}
-use lib.ListN.{length, get_or, set, drop, replicate, length-set, length-replicate, get_or-replicate}
+use lib.ListN.{length, get_or, set, drop, replicate, length-map, length-set, length-replicate, get_or-replicate}
 use lib.Seq.{get_or-set_same, get_or-set_other, drop-length}
 use borrow.Author.Tests.{lt-ltb, le-ltb, eqb-true, eqb-false, eq-eqb, ne_eqb}
 use Rattle.laws.specs.Tests.{lt-or-ge}
 use Rattle.laws.specs.Lists.{All, keep}
 use Rattle.laws.specs.Alls.{all-image-at}
 use Rattle.laws.specs.Walk.{next}
-use Rattle.kinds.specs.Kinds.{Row, item_of}
+use Rattle.kinds.specs.Kinds.{Row, track_of, item_of}
 use Rattle.kinds.specs.declared.track.Track.{Track}
 use Rattle.kinds.specs.declared.item.Item.{Item}
 use Rattle.spanned.specs.Sound.{ItemFits}
 use Rattle.lines.specs.Chains.{Rising, chain_from, chain, batches}
 use Rattle.lines.proofs.Chains.{chain-end, chain_next}
-use Rattle.chains.specs.Batches.{batch_of, in_batch, chain_items, Gathered}
+use Rattle.chains.specs.Batches.{batch_of, in_batch, chain_items}
 use Rattle.chains.proofs.Numbers.{batch-of-lt}
 
 -- ---- A chain that starts behind j never meets j
@@ -88,9 +88,10 @@ chained-none ts rows n m e f = record {
     start-end = rw length-replicate (omega arith)
 
 -- so it is with the lists once they are cleared
-pub chained-start : (ts : List Track) (rows : List Row) (heads₀ nexts₀ heads nexts : List ℕ) → length heads₀ ≡ batches (length ts) → length nexts₀ ≡ length rows
-    → heads ≡ replicate (length heads₀) (length rows) → nexts ≡ replicate (length nexts₀) (length rows) → Chained ts rows heads nexts (length rows)
-chained-start ts rows heads₀ nexts₀ heads nexts all long h n = rw (h, n) (chained-none ts rows (length heads₀) (length nexts₀) all long)
+pub chained-start : (tracks rows : List Row) (heads₀ nexts₀ : List ℕ) {heads nexts : List ℕ} → length heads₀ ≡ batches (length tracks) → length nexts₀ ≡ length rows
+    → heads ≡ replicate (length heads₀) (length rows) → nexts ≡ replicate (length nexts₀) (length rows) → Chained (map track_of tracks) rows heads nexts (length rows)
+chained-start tracks rows heads₀ nexts₀ all long h n =
+    rw (h, n) (chained-none (map track_of tracks) rows (length heads₀) (length nexts₀) (all ∙ ap batches (sym (length-map tracks track_of))) long)
 
 module _ (ts : List Track) (rows : List Row) (heads nexts : List ℕ) (j : ℕ) where
   -- an item joins its batch in front
@@ -152,23 +153,22 @@ module _ (ts : List Track) (rows : List Row) (heads nexts : List ℕ) (j : ℕ) 
               rw (get_or-set_other heads k q j 0 far, next rows j [] in_rows, other q far)
               (rest q l (omega (arith, c.behind q l)))
 
--- at last every item has joined
-pub chained-all : (ts : List Track) (rows : List Row) (heads nexts : List ℕ) (i : ℕ) → i ≤ 0 → Chained ts rows heads nexts i → Gathered ts rows heads nexts
-chained-all ts rows heads nexts zero h c = record { rising = c.rising; long = c.long; batch = c.batch }
-chained-all ts rows heads nexts (suc i) h c = absurd (omega arith)
-
 -- the item before i, and k as its batch's number
-module _ (n : ℕ) (ts : List Track) (rows : List Row) (heads nexts : List ℕ) (i k : ℕ) (item : Item)
-    (few : n ≡ length ts) (fits : All (ItemFits n) (map item_of rows)) (more : 0 < i) (c : Chained ts rows heads nexts i)
-    (read : item ≡ item_of (get_or rows (i - 1) [])) (number : k ≡ batch_of ts item) where
-  pub number_lt : k < batches (length ts)
-  number_lt = rw (number, read) (batch-of-lt ts (item_of (get_or rows (i - 1) [])) n few own)
+module _ (tracks rows : List Row) {heads nexts : List ℕ} {i k : ℕ} {item : Item}
+    (fits : All (ItemFits (length tracks)) (map item_of rows)) (more : 0 < i) (c : Chained (map track_of tracks) rows heads nexts i)
+    (read : item ≡ item_of (get_or rows (i - 1) [])) (number : k ≡ batch_of (map track_of tracks) item) where
+  number_lt : k < batches (length (map track_of tracks))
+  number_lt = rw (number, read) (batch-of-lt (map track_of tracks) (item_of (get_or rows (i - 1) [])) (length tracks) (sym (length-map tracks track_of)) own)
     where
-      own : ItemFits n (item_of (get_or rows (i - 1) []))
-      own = all-image-at (ItemFits n) item_of rows (i - 1) [] fits (omega (arith, c.within))
+      own : ItemFits (length tracks) (item_of (get_or rows (i - 1) []))
+      own = all-image-at (ItemFits (length tracks)) item_of rows (i - 1) [] fits (omega (arith, c.within))
 
-  pub chained-before : Chained ts rows (set heads k (i - 1)) (set nexts (i - 1) (get_or heads k 0)) (i - 1)
-  chained-before = chained-turn ts rows heads nexts (i - 1) k (number ∙ ap (batch_of ts) read) number_lt (rw back c)
+  -- the batch has its head
+  pub has-head : k < length heads
+  has-head = omega (arith, number_lt, c.all-heads)
+
+  pub chained-before : Chained (map track_of tracks) rows (set heads k (i - 1)) (set nexts (i - 1) (get_or heads k 0)) (i - 1)
+  chained-before = chained-turn (map track_of tracks) rows heads nexts (i - 1) k (number ∙ ap (batch_of (map track_of tracks)) read) number_lt (rw back c)
     where
       back : i - 1 + 1 ≡ i
       back = omega arith

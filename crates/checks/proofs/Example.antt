@@ -2,11 +2,10 @@
 use mathlib.Core.Path.{◌≡◌, refl}
 use Prim.Native.Nat.{ℕ}
 use mathlib.Core.List.{List, [], ◌∷◌}
+use Rattle.std.specs.Prelude.{None, Some}
 use Rattle.laws.specs.Lists.{some}
-use Rattle.kinds.specs.Kinds.{item, contribution}
+use Rattle.kinds.specs.Kinds.{item, Amount}
 use Rattle.sheet_kinds.specs.Kinds.{space, sheet_track}
-use Rattle.kinds.specs.declared.amount.Amount.{Amount}
-use Rattle.kinds.specs.declared.amount.Amount.TheVariants.{Absent, Given}
 use Rattle.kinds.specs.declared.constraint.Constraint.TheVariants as constraint
 use Rattle.sheet_kinds.specs.declared.axis.Axis.TheVariants.{Inline}
 use Rattle.sheet_kinds.specs.declared.space.Space.{Space}
@@ -19,7 +18,7 @@ use Rattle.checks.specs.Rule.{lowest, first_of, record_fault}
 use mathlib.Core.Bool.{false}
 
 abbrev hundred : Space
-hundred = space (constraint.Definite 100) (Given 100) false Inline
+hundred = space (constraint.Definite 100) (Some 100) false Inline
 
 abbrev auto : SheetTrack
 auto = sheet_track minimum.Auto maximum.Auto
@@ -31,57 +30,57 @@ abbrev fr : ℕ → SheetTrack
 fr factor = sheet_track minimum.Auto (maximum.Fr factor)
 
 abbrev item_on : ℕ → ℕ → Amount → Amount → Amount → Item
-item_on start span a b c = item start span (contribution a ∷ contribution b ∷ contribution c ∷ [])
+item_on start span a b c = item start span (a ∷ b ∷ c ∷ [])
 
 abbrev check : List SheetTrack → Item → Fault
 check ts i = record_fault hundred ts (i ∷ [])
 
 -- W12
-pub minmax-auto-zero-fine : check (sheet_track minimum.Auto (maximum.Fixed 0) ∷ []) (item_on 0 1 (Given 30) (Given 30) (Given 30)) ≡ fine
+pub minmax-auto-zero-fine : check (sheet_track minimum.Auto (maximum.Fixed 0) ∷ []) (item_on 0 1 (Some 30) (Some 30) (Some 30)) ≡ fine
 unfolding record_fault first_of lowest some
 minmax-auto-zero-fine = refl
 
 -- an absent contribution, on an auto track and on a fixed one
-pub absent-on-auto : check (auto ∷ []) (item_on 0 1 (Given 30) Absent (Given 30)) ≡ fault 9 2
+pub absent-on-auto : check (auto ∷ []) (item_on 0 1 (Some 30) None (Some 30)) ≡ fault 9 2
 unfolding record_fault first_of lowest some
 absent-on-auto = refl
 
-pub absent-on-fixed : check (fixed_to 10 ∷ []) (item_on 0 1 (Given 30) Absent (Given 30)) ≡ fine
+pub absent-on-fixed : check (fixed_to 10 ∷ []) (item_on 0 1 (Some 30) None (Some 30)) ≡ fine
 unfolding record_fault first_of lowest some
 absent-on-fixed = refl
 
 -- both sides of 65,535
-pub size-at-limit : check (fixed_to 65535 ∷ []) (item_on 0 1 (Given 65535) Absent Absent) ≡ fine
+pub size-at-limit : check (fixed_to 65535 ∷ []) (item_on 0 1 (Some 65535) None None) ≡ fine
 unfolding record_fault first_of lowest some
 size-at-limit = refl
 
-pub size-over-limit : check (fixed_to 10 ∷ fixed_to 65536 ∷ []) (item_on 0 1 Absent Absent Absent) ≡ fault 7 2
+pub size-over-limit : check (fixed_to 10 ∷ fixed_to 65536 ∷ []) (item_on 0 1 None None None) ≡ fault 7 2
 unfolding record_fault first_of lowest some
 size-over-limit = refl
 
 -- also of an item that is not measured
-pub contribution-over-limit : check (fixed_to 10 ∷ []) (item_on 0 1 Absent Absent (Given 65536)) ≡ fault 7 2
+pub contribution-over-limit : check (fixed_to 10 ∷ []) (item_on 0 1 None None (Some 65536)) ≡ fault 7 2
 unfolding record_fault first_of lowest some
 contribution-over-limit = refl
 
 -- both sides of the last track
-pub on-last-track : check (auto ∷ auto ∷ []) (item_on 1 1 (Given 1) (Given 2) (Given 3)) ≡ fine
+pub on-last-track : check (auto ∷ auto ∷ []) (item_on 1 1 (Some 1) (Some 2) (Some 3)) ≡ fine
 unfolding record_fault first_of lowest some
 on-last-track = refl
 
-pub past-last-track : check (auto ∷ auto ∷ []) (item_on 1 2 (Given 1) (Given 2) (Given 3)) ≡ fault 8 3
+pub past-last-track : check (auto ∷ auto ∷ []) (item_on 1 2 (Some 1) (Some 2) (Some 3)) ≡ fault 8 3
 unfolding record_fault first_of lowest some
 past-last-track = refl
 
-pub row-falls : check (auto ∷ []) (item_on 0 1 (Given 1) (Given 3) (Given 2)) ≡ fault 10 2
+pub row-falls : check (auto ∷ []) (item_on 0 1 (Some 1) (Some 3) (Some 2)) ≡ fault 10 2
 unfolding record_fault first_of lowest some
 row-falls = refl
 
 -- an fr track is spanned like any other: in a span of 1, and in a span of 2
-pub one-fr-track : check (fr 1000 ∷ auto ∷ []) (item_on 0 1 (Given 1) (Given 2) (Given 3)) ≡ fine
+pub one-fr-track : check (fr 1000 ∷ auto ∷ []) (item_on 0 1 (Some 1) (Some 2) (Some 3)) ≡ fine
 unfolding record_fault first_of lowest some
 one-fr-track = refl
 
-pub span-crosses-fr : check (fr 1000 ∷ auto ∷ []) (item_on 0 2 (Given 1) (Given 2) (Given 3)) ≡ fine
+pub span-crosses-fr : check (fr 1000 ∷ auto ∷ []) (item_on 0 2 (Some 1) (Some 2) (Some 3)) ≡ fine
 unfolding record_fault first_of lowest some
 span-crosses-fr = refl

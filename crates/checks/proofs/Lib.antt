@@ -1,8 +1,6 @@
 -- The laws of the checks, from the ground up. A function's own proof stands in the folder of its name.
 
--- two tests one after the other
-pub mod Both
--- the lowest record at fault, and a loop that looks for it
+-- the lowest record at fault, and a search for it
 pub mod LowestRecord
 pub mod LowestWalk
 -- the row of checks

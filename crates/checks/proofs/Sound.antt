@@ -8,11 +8,10 @@ use mathlib.Core.List.{List, map}
 use lib.Dec.{ltb, eqb}
 use lib.ListN.{length}
 use borrow.Author.Tests.{ltb-false, eqb-false}
+use Rattle.std.specs.Prelude.{None, Some}
 use Rattle.laws.specs.Lists.{some}
 use Rattle.rounds.specs.Rule.{most_dots}
-use Rattle.kinds.specs.Kinds.{amount_number, constraint_number, minimum_number, maximum_number, amount_at}
-use Rattle.kinds.specs.declared.amount.Amount.{Amount}
-use Rattle.kinds.specs.declared.amount.Amount.TheVariants.{Absent, Given}
+use Rattle.kinds.specs.Kinds.{amount_number, constraint_number, minimum_number, maximum_number, amount_at, Amount}
 use Rattle.kinds.specs.declared.constraint.Constraint.{Constraint}
 use Rattle.kinds.specs.declared.constraint.Constraint.TheVariants as constraint
 use Rattle.sheet_kinds.specs.declared.space.Space.{Space}
@@ -40,8 +39,8 @@ neither false y e = (refl, e)
 -- ---- a number that is not over its limit
 
 amount-le : (most : ℕ) (a : Amount) → amount_over most a ≡ false → amount_number a ≤ most
-amount-le most Absent e = omega arith
-amount-le most (Given n) e = ltb-false most n e
+amount-le most None e = omega arith
+amount-le most (Some n) e = ltb-false most n e
 
 constraint-le : (c : Constraint) → constraint_over c ≡ false → constraint_number c ≤ most_dots
 constraint-le (constraint.Definite n) e = ltb-false most_dots n e

@@ -7,8 +7,7 @@ use Rattle.records.specs.Rule.{Fault, fine, fault}
 use Rattle.checks.specs.Answer.{number_of, place_of, fault_of}
 use Rattle.checks.specs.declared.refusal.Refusal.{Refusal}
 use Rattle.checks.specs.declared.refusal.Refusal.TheVariants.{NumberOver, OutsideTracks, ContributionMissing, RowFalls}
-use Rattle.checks.specs.declared.refusal.Fault as found
-use Rattle.checks.specs.declared.refusal.Fault.TheVariants.{Fine, Found}
+use Rattle.std.specs.Prelude.{Result, Ok, Err}
 
 refusal_of : (number place : ℕ) → Refusal
 refusal_of number place =
@@ -23,14 +22,14 @@ refusal-again (OutsideTracks place) = refl
 refusal-again (ContributionMissing place) = refl
 refusal-again (RowFalls place) = refl
 
-answer_of : Fault → found.Fault
-answer_of fine = Fine
-answer_of (fault number place) = Found (refusal_of number place)
+answer_of : Fault → Result Unit Refusal
+answer_of fine = Ok tt
+answer_of (fault number place) = Err (refusal_of number place)
 
-answer-again : (a : found.Fault) → answer_of (fault_of a) ≡ a
+answer-again : (a : Result Unit Refusal) → answer_of (fault_of a) ≡ a
 unfolding answer_of
-answer-again Fine = refl
-answer-again (Found refusal) = ap Found (refusal-again refusal)
+answer-again (Ok done) = refl
+answer-again (Err refusal) = ap Err (refusal-again refusal)
 
-pub answer-of-fault : (a b : found.Fault) → fault_of a ≡ fault_of b → a ≡ b
+pub answer-of-fault : (a b : Result Unit Refusal) → fault_of a ≡ fault_of b → a ≡ b
 answer-of-fault a b e = sym (answer-again a) ∙ ap answer_of e ∙ answer-again b

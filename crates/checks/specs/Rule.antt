@@ -1,12 +1,10 @@
 -- Numbers 7 to 10 of the build paper's table, in their order: which record of a board is at fault, and for what. This page goes
 -- by what a sheet says of its space, tracks and items, and it computes; what an item spans has the page before it,
 -- `crates/spanned/specs/Rule.antt`, whose names it hands on. It assumes nothing of the code.
-use Rattle.std.specs.Prelude.{ℕ, ◌+◌, Bool, false, cond, ◌&&◌, ◌||◌, List, [], ◌∷◌, map, ltb, eqb, length}
+use Rattle.std.specs.Prelude.{ℕ, ◌+◌, Bool, false, cond, ◌&&◌, ◌||◌, List, [], ◌∷◌, map, ltb, eqb, length, None, Some}
 use Rattle.laws.specs.Lists.{some}
 use Rattle.rounds.specs.Rule.{most_dots}
-use Rattle.kinds.specs.Kinds.{amount_at, falls}
-use Rattle.kinds.specs.declared.amount.Amount.{Amount}
-use Rattle.kinds.specs.declared.amount.Amount.TheVariants.{Absent, Given}
+use Rattle.kinds.specs.Kinds.{amount_at, falls, Amount}
 use Rattle.kinds.specs.declared.constraint.Constraint.{Constraint}
 use Rattle.kinds.specs.declared.constraint.Constraint.TheVariants as constraint
 use Rattle.kinds.specs.declared.track.Minimum.{Minimum}
@@ -25,8 +23,8 @@ pub use Rattle.spanned.specs.Rule.{most_size, most_factor, most_contribution, sp
 -- ---- 7: a number is over its limit. What is absent is no number
 
 abbrev pub amount_over : ℕ → Amount → Bool
-amount_over most Absent = false
-amount_over most (Given n) = ltb most n
+amount_over most None = false
+amount_over most (Some n) = ltb most n
 
 abbrev pub constraint_over : Constraint → Bool
 constraint_over (constraint.Definite n) = ltb most_dots n

@@ -2,61 +2,44 @@
 ghost use Rattle.std.specs.Prelude.{◌≡◌};
 ghost use Rattle.checks.specs.Rule.{amount_over, constraint_over, minimum_over, maximum_over, space_over, track_over, item_over};
 
-use kinds::{Amount, Constraint, ContributionKind, Item, Maximum, Minimum, Track};
+use kinds::{Constraint, ContributionKind, Item, Maximum, Minimum, Track};
 use sheet_kinds::{SheetTrack, Space};
 
-fn amount_over(amount: Amount, most: u32) -> bool
+fn amount_over(amount: Option<u32>, most: u32) -> bool
     ensures { result ≡ amount_over most amount }
 {
     match amount {
-        Amount::Absent => false,
-        Amount::Given(n) => n > most,
+        None => false,
+        Some(n) => n > most,
     }
 }
 
 fn constraint_over(constraint: Constraint) -> bool
     ensures { result ≡ constraint_over constraint }
 {
-    match constraint {
-        Constraint::Definite(n) => n > Constraint::MOST,
-        Constraint::MinContent => false,
-        Constraint::MaxContent => false,
-    }
+    matches!(constraint, Constraint::Definite(n) if n > Constraint::MOST)
 }
 
 fn minimum_over(minimum: Minimum) -> bool
     ensures { result ≡ minimum_over minimum }
 {
-    match minimum {
-        Minimum::Fixed(n) => n > Track::MOST_SIZE,
-        Minimum::Auto => false,
-        Minimum::MinContent => false,
-        Minimum::MaxContent => false,
-    }
+    matches!(minimum, Minimum::Fixed(n) if n > Track::MOST_SIZE)
 }
 
 fn maximum_over(maximum: Maximum) -> bool
     ensures { result ≡ maximum_over maximum }
 {
     match maximum {
-        Maximum::Fixed(n) => n > Track::MOST_SIZE,
-        Maximum::Auto => false,
-        Maximum::MinContent => false,
-        Maximum::MaxContent => false,
-        Maximum::FitContent(n) => n > Track::MOST_SIZE,
+        Maximum::Fixed(n) | Maximum::FitContent(n) => n > Track::MOST_SIZE,
         Maximum::Fr(n) => n > Track::MOST_FACTOR,
+        _ => false,
     }
 }
 
 pub(crate) fn space_over(space: Space) -> bool
     ensures { result ≡ space_over space }
 {
-    let constraint = space.constraint;
-    let inner = space.inner;
-    if constraint_over(constraint) {
-        return true;
-    }
-    amount_over(inner, Space::MOST)
+    constraint_over(space.constraint) || amount_over(space.inner, Space::MOST)
 }
 
 // The numbers of a track, as the sizing reads them.
@@ -64,25 +47,17 @@ pub(crate) fn track_over(track: SheetTrack) -> bool
     ensures { result ≡ track_over track }
 {
     let resolved = track.resolved();
-    let minimum = resolved.minimum;
-    let maximum = resolved.maximum;
-    if minimum_over(minimum) {
-        return true;
-    }
-    maximum_over(maximum)
+    minimum_over(resolved.minimum) || maximum_over(resolved.maximum)
 }
 
 pub(crate) fn item_over(item: Item) -> bool
     ensures { result ≡ item_over item }
 {
-    let minimum = item.amount(ContributionKind::Minimum);
-    let min_content = item.amount(ContributionKind::MinContent);
-    let max_content = item.amount(ContributionKind::MaxContent);
-    if amount_over(minimum, Item::MOST_CONTRIBUTION) {
-        return true;
-    }
-    if amount_over(min_content, Item::MOST_CONTRIBUTION) {
-        return true;
-    }
-    amount_over(max_content, Item::MOST_CONTRIBUTION)
+    [
+        ContributionKind::Minimum,
+        ContributionKind::MinContent,
+        ContributionKind::MaxContent,
+    ]
+    .iter()
+    .any(|kind| amount_over(item.amount(*kind), Item::MOST_CONTRIBUTION))
 }

@@ -1,7 +1,6 @@
 // What refuses a board, named by what is wrong with its lowest record at fault, and the paper's number and place of each.
 ghost use Rattle.std.specs.Prelude.{◌≡◌};
-ghost use Rattle.records.specs.Rule.{first};
-ghost use Rattle.checks.specs.Answer.{number_of, place_of, fault_of};
+ghost use Rattle.checks.specs.Answer.{number_of, place_of};
 
 #[derive(Clone, Copy)]
 pub enum Refusal {
@@ -20,10 +19,10 @@ impl Refusal {
         ensures { result ≡ number_of self }
     {
         match self {
-            Refusal::NumberOver { record: _ } => 7,
-            Refusal::OutsideTracks { record: _ } => 8,
-            Refusal::ContributionMissing { record: _ } => 9,
-            Refusal::RowFalls { record: _ } => 10,
+            Refusal::NumberOver { .. } => 7,
+            Refusal::OutsideTracks { .. } => 8,
+            Refusal::ContributionMissing { .. } => 9,
+            Refusal::RowFalls { .. } => 10,
         }
     }
 
@@ -31,29 +30,10 @@ impl Refusal {
         ensures { result ≡ place_of self }
     {
         match self {
-            Refusal::NumberOver { record } => record,
-            Refusal::OutsideTracks { record } => record,
-            Refusal::ContributionMissing { record } => record,
-            Refusal::RowFalls { record } => record,
-        }
-    }
-}
-
-// No record at fault, or the refusal.
-#[derive(Clone, Copy)]
-pub enum Fault {
-    Fine,
-    Found(Refusal),
-}
-
-impl Fault {
-    // This one, or the next where this is none.
-    pub(crate) fn first(self, next: Fault) -> Fault
-        ensures { fault_of result ≡ first (fault_of self) (fault_of next) }
-    {
-        match self {
-            Fault::Fine => next,
-            Fault::Found(refusal) => Fault::Found(refusal),
+            Refusal::NumberOver { record }
+            | Refusal::OutsideTracks { record }
+            | Refusal::ContributionMissing { record }
+            | Refusal::RowFalls { record } => record,
         }
     }
 }

@@ -9,17 +9,16 @@ ghost use Rattle.kinds.specs.Kinds.{track_of, item_of};
 ghost use Rattle.spanned.specs.Sound.{TrackFits, Sound};
 ghost use Rattle.lines.specs.Rows.{lines_of};
 ghost use Rattle.lines.specs.Fits.{LinesFit};
-ghost use Rattle.lines.specs.Chains.{BatchesFit};
 ghost use Rattle.chains.specs.Batches.{Gathered, Gatherable};
 ghost use Rattle.letters.specs.Increases.{NoIncrease};
 ghost use Rattle.letters.specs.Totals.{tallied};
-ghost use Rattle.spans.specs.Work.{Working, Calm};
+ghost use Rattle.spans.specs.Work.{Working, Calm, BatchesOn};
 ghost use Rattle.content.specs.Store.{Store, prepared_lines, spread_lines, content_lines};
 
 use chains::{fr_batch, gather};
 use kinds::Constraint;
 use letters::{Batch, tally};
-use lines::{Pass, pass_over, start};
+use lines::{Batches, Chain, fill_missing, start};
 use spans::{batched, longer, singles};
 
 // Steps 1 and 2, the chains of the batches, and the totals of the lines.
@@ -43,16 +42,14 @@ fn prepare(
 {
     start(tracks, lines);
     gather(tracks, items, heads, nexts);
-    singles(constraint, heads[1], nexts, items, lines);
+    singles(constraint, &Chain::new(items, nexts, heads[1]), lines);
     tally(lines, sums);
 }
 
 // Steps 3 and 4.
 fn spread(
     constraint: Constraint,
-    heads: &[usize],
-    nexts: &[usize],
-    items: &[[u32; 7]],
+    batches: &Batches<'_>,
     lines: &mut [[u32; 8]],
     increases: &mut [u32],
     gains: &mut [u32],
@@ -60,32 +57,29 @@ fn spread(
     sums: &mut [[u64; 2]],
 )
     requires { Working lines.old increases.old gains.old rests.old sums.old
-        × BatchesFit (length lines.old) items.now heads.now nexts.now
+        × BatchesOn (length lines.old) batches.now
         × Calm (lines_of lines.old) }
-    ensures { (lines_of lines.new ≡ spread_lines constraint items.now heads.now nexts.now lines.old)
+    ensures { (lines_of lines.new ≡ spread_lines constraint batches.now lines.old)
         × LinesFit (lines_of lines.new)
         × NoIncrease lines.old increases.new }
 {
-    longer(
-        constraint, heads, nexts, items, lines, increases, gains, rests, sums,
-    );
-    let last = fr_batch(lines.len());
+    longer(constraint, batches, lines, increases, gains, rests, sums);
+    let last = batches.batch(fr_batch(lines.len()));
     batched(
         Batch::Last,
         constraint,
-        heads[last],
-        nexts,
-        items,
+        &last,
         lines,
         increases,
         gains,
         rests,
         sums,
     );
-    pass_over(Pass::Missing, lines);
+    fill_missing(lines);
 }
 
-// In the store that is lent. No increase is planned before and after.
+// In the store that is lent, slice by slice: no heap, and a struct of them would be no plainer (spans/src/batch.rt says why). No increase is
+// planned before and after.
 pub fn content(
     constraint: Constraint,
     tracks: &[[u32; 4]],
@@ -107,7 +101,6 @@ pub fn content(
         × NoIncrease lines.old increases.new }
 {
     prepare(constraint, tracks, items, heads, nexts, lines, sums);
-    spread(
-        constraint, heads, nexts, items, lines, increases, gains, rests, sums,
-    );
+    let batches = Batches::new(items, heads, nexts);
+    spread(constraint, &batches, lines, increases, gains, rests, sums);
 }

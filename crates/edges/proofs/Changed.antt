@@ -133,9 +133,9 @@ module _ (es : List ℕ) (t base : ℕ) (f : edges_fault es ≡ fine) (h : t + 1
 -- ---- the update, case by case as the code goes
 
 module _ (es : List ℕ) (t base : ℕ) where
-  pub update-unsorted : (entry : ℕ) → fault 15 entry ≡ edges_fault es → edges_outcome (refused 15 entry) es ≡ update_call es t base
+  pub update-unsorted : (number place : ℕ) → fault number place ≡ edges_fault es → edges_outcome (refused number place) es ≡ update_call es t base
   unfolding update_call
-  update-unsorted entry e = rw (← e)
+  update-unsorted number place e = rw (← e)
 
   module _ (f : fine ≡ edges_fault es) where
     pub update-missing : length es - 1 ≤ t → edges_outcome (refused 24 t) es ≡ update_call es t base

@@ -8,12 +8,12 @@ use native.Mathlib.Nat.{le_of_suc-le-suc, not-suc-le-zero, le_refl}
 use native.Mathlib.Omega.{arith}
 use lib.Dec.{ltb, leb, eqb}
 use lib.ListN.{length, get_or, drop, drop_of_length-le}
-use borrow.Author.Tests.{lt-ltb, le-ltb, lt-leb, le-leb, leb-true, eqb-true, eq-eqb, ne_eqb}
+use borrow.Author.Tests.{lt-ltb, le-ltb, lt-leb, le-leb, leb-true, eqb-true}
 use Rattle.laws.specs.Tests.{lt-or-ge}
 use Rattle.laws.specs.Faults.{fine-both, fine-test, fault-not-fine}
 use Rattle.laws.specs.Walk.{next}
 use Rattle.edges.specs.Rule.{Fault, fine, fault, first, unless, fall_fault, edges_fault}
-use Rattle.edges.specs.Steps.{is_fault, stopped_at}
+use Rattle.edges.specs.Steps.{is_fault}
 
 -- ---- the walk
 
@@ -52,13 +52,6 @@ module _ (es : List ℕ) (i : ℕ) where
 
     pub fault-end : length es ≤ i → (fallen || is_fault (falls_at es i)) ≡ w → fallen ≡ w
     fault-end h e = sym (or-false fallen) ∙ ap (λ (f : Fault). fallen || is_fault f) (sym (falls-end h)) ∙ e
-
--- where a walk stops
-pub stops_at : (number n stop : ℕ) → stop < n → stopped_at number n stop ≡ fault number stop
-stops_at number n stop h = rw (lt-ltb stop n h)
-
-pub goes_through : (number n stop : ℕ) → n ≤ stop → stopped_at number n stop ≡ fine
-goes_through number n stop h = rw (le-ltb stop n h)
 
 -- ---- a list that passes
 
@@ -106,17 +99,3 @@ has-entry (e ∷ es) f = omega arith
 pub starts-at-zero : (es : List ℕ) → edges_fault es ≡ fine → get_or es 0 0 ≡ 0
 starts-at-zero [] f = refl
 starts-at-zero (e ∷ es) f = (start_fine e es f).0
-
--- ---- the check, case by case as the code goes
-
-pub check-none : (es : List ℕ) → length es ≡ 0 → fault 15 0 ≡ edges_fault es
-check-none [] h = refl
-check-none (e ∷ es) h = absurd (omega arith)
-
-pub check-start : (es : List ℕ) → (get_or es 0 0 ≡ 0 → ⊥) → fault 15 0 ≡ edges_fault es
-check-start [] h = refl
-check-start (e ∷ es) h = rw (ne_eqb e 0 h)
-
-pub check-behind : (es : List ℕ) → 0 < length es → get_or es 0 0 ≡ 0 → falls_at es 1 ≡ edges_fault es
-check-behind [] l h = absurd (not-suc-le-zero l)
-check-behind (e ∷ es) l h = rw (eq-eqb e 0 h)

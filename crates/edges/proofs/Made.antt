@@ -1,5 +1,5 @@
 -- Edges that are made: edge by edge as the code writes them, what refuses bases, and that the check passes what is made. Assumes nothing.
-use mathlib.Core.Path.{◌≡◌, refl, sym, ap, ap₂, ◌∙◌}
+use mathlib.Core.Path.{◌≡◌, sym, ap, ap₂, ◌∙◌}
 use mathlib.Core.Bool.{Bool, true, false, ◌&&◌, and-eq-true_iff}
 use mathlib.Core.List.{List, [], ◌∷◌, ◌++◌, map}
 use Prim.Native.Nat.{ℕ, suc, ◌+◌, ◌≤◌, ◌<◌}
@@ -8,7 +8,7 @@ use native.Mathlib.Omega.{arith}
 use lib.Dec.{leb}
 use lib.ListN.{length, get_or, take, drop, set, length-map, drop_of_length-le, get_or-map}
 use lib.Seq.{drop-cons, set_split}
-use borrow.Author.Tests.{leb-true, le-leb, lt-leb, lt-ltb, le-ltb}
+use borrow.Author.Tests.{leb-true, le-leb, lt-leb}
 use Rattle.laws.specs.Faults.{fine-both, fine-test}
 use Rattle.laws.specs.Lists.{up_from}
 use Rattle.laws.specs.Sums.{sum}
@@ -16,7 +16,6 @@ use Rattle.laws.specs.Put.{onto}
 use Rattle.laws.specs.Walk.{next, store_step}
 use Rattle.kinds.specs.Kinds.{Row}
 use Rattle.edges.specs.Rule.{Fault, fine, fault, first, edge_of, edges_of, most_base, most_edge, limit_fault, limits_fault, bases_in, make_call, edges_outcome, written, refused}
-use Rattle.edges.specs.Steps.{stopped_at}
 
 -- ---- the edges one after another: the first is told, and each track's base leads to the next
 
@@ -37,11 +36,6 @@ from-sums f k edge (base ∷ bases) h =
 pub edges-are-from : (bases : List ℕ) → edges_of bases ≡ edges_from 0 bases
 unfolding edges_of
 edges-are-from bases = rw add-one (from-sums (edge_of bases) 0 0 bases (λ (t : ℕ). let e : 0 + t ≡ t = omega arith in ap (edge_of bases) e ∙ (omega arith)))
-
-pub length_from : (edge : ℕ) (bases : List ℕ) → length (edges_from edge bases) ≡ suc (length bases)
-unfolding edges_from
-length_from edge [] = refl
-length_from edge (base ∷ bases) = ap suc (length_from (edge + base) bases)
 
 -- ---- the limits, track by track
 
@@ -149,14 +143,14 @@ module _ (places : List Row) (lent : List ℕ) where
   unfolding make_call
   make-short h = let n : length lent < length (bases_in places) + 1 = simp length-map (omega arith) in rw (lt-leb _ _ n)
 
-  module _ (h : length places < length lent) (stop : ℕ) (s : stopped_at 7 (length places) stop ≡ limits_fault 0 0 (bases_in places)) where
+  module _ (h : length places < length lent) where
     enough-lent : leb (length (bases_in places) + 1) (length lent) ≡ true
     enough-lent = le-leb _ _ (simp length-map (omega arith))
 
-    pub make-past : stop < length places → edges_outcome (refused 7 stop) lent ≡ make_call places lent
+    pub make-past : (number place : ℕ) → fault number place ≡ limits_fault 0 0 (bases_in places) → edges_outcome (refused number place) lent ≡ make_call places lent
     unfolding make_call
-    make-past l = rw (enough-lent, ← s, lt-ltb stop (length places) l)
+    make-past number place e = rw (enough-lent, ← e)
 
-    pub make-done : length places ≤ stop → (new : List ℕ) → new ≡ onto (edges_of (bases_in places)) lent → edges_outcome written new ≡ make_call places lent
+    pub make-done : fine ≡ limits_fault 0 0 (bases_in places) → (new : List ℕ) → new ≡ onto (edges_of (bases_in places)) lent → edges_outcome written new ≡ make_call places lent
     unfolding make_call
-    make-done l new e = rw (enough-lent, ← s, le-ltb stop (length places) l, e)
+    make-done f new e = rw (enough-lent, ← f, e)

@@ -13,7 +13,7 @@ use borrow.Author.Tests.{lt-ltb, le-ltb, lt-leb, le-leb}
 use Rattle.laws.specs.Tests.{lt-or-ge}
 use Rattle.edges.specs.Rule.{fine, fault, fall_fault, edges_fault, track, no_track, holds, scan_from, scan, lookup_call, touched, lookup_refused}
 use Rattle.edges.specs.Steps.{LastUpTo}
-use Rattle.edges.proofs.Falls.{fall-fine, behind-fine, rises-from, rises, has-entry, starts-at-zero}
+use Rattle.edges.proofs.Falls.{fall-fine, behind-fine, rises-from, rises}
 
 -- ---- whether a track holds a dot
 
@@ -46,19 +46,6 @@ pub record Narrowed (es : List ℕ) (dot at count : ℕ) : Type 0 where
   pub within : at + count ≤ length es
   pub reached : get_or es at 0 ≤ dot
   pub past : at + count < length es → dot < get_or es (at + count) 0
-
--- the whole list, and narrowed to one
-pub narrowed-start : (es : List ℕ) (dot : ℕ) → edges_fault es ≡ fine → Narrowed es dot 0 (length es)
-narrowed-start es dot f =
-    let z = starts-at-zero es f in
-    record { some = has-entry es f; within = omega arith; reached = omega (arith, z); past = λ (h : 0 + length es < length es). absurd (omega arith) }
-
-pub narrowed-end : (es : List ℕ) (dot at count : ℕ) → Narrowed es dot at count → count ≤ 1 → LastUpTo es dot at
-narrowed-end es dot at count n h =
-    let s = n.some in
-    let w = n.within in
-    let e : count ≡ 1 = omega (arith, s) in
-    record { within = omega (arith, w, e); reached = n.reached; past = rw e at n.past }
 
 module _ (es : List ℕ) (dot : ℕ) (f : edges_fault es ≡ fine) where
   -- the track whose edge is not past the dot, and the next one is
@@ -116,6 +103,6 @@ module _ (es : List ℕ) (dot : ℕ) (f : edges_fault es ≡ fine) where
     lookup-none h = let w = u.within in let n : last + 1 ≡ length es = omega (arith, w) in rw (f, scan-none last n u.reached)
 
 -- a list that is refused
-pub lookup-unsorted : (es : List ℕ) (dot entry : ℕ) → fault 15 entry ≡ edges_fault es → lookup_refused 15 entry ≡ lookup_call es dot
+pub lookup-unsorted : (es : List ℕ) (dot number place : ℕ) → fault number place ≡ edges_fault es → lookup_refused number place ≡ lookup_call es dot
 unfolding lookup_call
-lookup-unsorted es dot entry e = rw (← e)
+lookup-unsorted es dot number place e = rw (← e)

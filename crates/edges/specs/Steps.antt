@@ -1,11 +1,7 @@
--- What the code's own steps do on the way to a call's answer: where a walk stops, what narrowing finds, and how edges move. Assumes nothing.
-use Rattle.std.specs.Prelude.{Bool, true, false, cond, List, ◌++◌, map, ℕ, ◌+◌, ◌-◌, ◌≤◌, ◌<◌, ltb, length, get_or, take, drop}
+-- What the code's own steps do on the way to a call's answer: whether a list falls, what narrowing finds, and how edges move. Assumes nothing.
+use Rattle.std.specs.Prelude.{Bool, true, false, List, ◌++◌, map, ℕ, ◌+◌, ◌-◌, ◌≤◌, ◌<◌, length, get_or, take, drop}
 use Rattle.laws.specs.Lists.{All}
 use Rattle.edges.specs.Rule.{Fault, fine, fault, fall_fault, most_edge}
-
--- a walk over n places that stops at one of them has found its fault there, and none where it goes through
-abbrev pub stopped_at : (number n stop : ℕ) → Fault
-stopped_at number n stop = cond (ltb stop n) (fault number stop) fine
 
 abbrev pub is_fault : Fault → Bool
 is_fault fine = false

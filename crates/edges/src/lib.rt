@@ -9,7 +9,7 @@ mod making;
 mod refusal;
 mod updating;
 
-pub use looking::{LookupAnswer, lookup};
+pub use looking::lookup;
 pub use making::make;
-pub use refusal::{EdgesAnswer, Refusal};
+pub use refusal::Refusal;
 pub use updating::update;

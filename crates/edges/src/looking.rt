@@ -4,34 +4,24 @@ ghost use Rattle.edges.specs.Rule.{edges_fault, fine, lookup_call};
 ghost use Rattle.edges.specs.Answer.{lookup_told};
 ghost use Rattle.edges.specs.Steps.{LastUpTo};
 
-use crate::checking::{Checked, check};
+use crate::checking::check;
 use crate::refusal::Refusal;
 
-#[derive(Clone, Copy)]
-pub enum LookupAnswer {
-    Track(usize),
-    // The dot is at the total or past it.
-    NoTrack,
-    Refused(Refusal),
-}
-
-// The track that holds the dot, or that none does; 15 is the only refusal.
-pub fn lookup(edges: &[u32], dot: u32) -> LookupAnswer
+// The track that holds the dot, or none where the dot is at the total or past it; 15 is the only refusal.
+pub fn lookup(edges: &[u32], dot: u32) -> Result<Option<usize>, Refusal>
     ensures { lookup_told result ≡ lookup_call edges.now dot }
 {
-    match check(edges) {
-        Checked::Found { entry } => LookupAnswer::Refused(Refusal::Unsorted { entry }),
-        Checked::Fine => {
-            let last = narrow(edges, dot);
-            if last < edges.len() - 1 {
-                return LookupAnswer::Track(last);
-            }
-            LookupAnswer::NoTrack
-        }
+    check(edges)?;
+    let last = narrow(edges, dot);
+    if last < edges.len() - 1 {
+        Ok(Some(last))
+    } else {
+        Ok(None)
     }
 }
 
-// The last entry that is not past the dot. `at` is one such, and none from `at + count` on is.
+// The last entry that is not past the dot. `at` is one such, and none from `at + count` on is. The loop halves `count`, so it counts no index; the
+// library's `partition_point` branches at each half, which `farther` does not.
 fn narrow(edges: &[u32], dot: u32) -> usize
     requires { edges_fault edges.now ≡ fine }
     ensures { LastUpTo edges.now dot result }

@@ -1,4 +1,4 @@
-// What refuses a call on edges, named by what is wrong, with the number and place of each; and what a call tells that writes edges.
+// What refuses a call on edges, named by what is wrong, with the number and place of each.
 ghost use Rattle.std.specs.Prelude.{◌≡◌};
 ghost use Rattle.edges.specs.Answer.{number_of, place_of};
 
@@ -20,9 +20,9 @@ impl Refusal {
     {
         match self {
             Refusal::LentTooShort => 6,
-            Refusal::OverLimit { track: _ } => 7,
-            Refusal::Unsorted { entry: _ } => 15,
-            Refusal::TrackMissing { track: _ } => 24,
+            Refusal::OverLimit { .. } => 7,
+            Refusal::Unsorted { .. } => 15,
+            Refusal::TrackMissing { .. } => 24,
         }
     }
 
@@ -36,11 +36,4 @@ impl Refusal {
             Refusal::TrackMissing { track } => track,
         }
     }
-}
-
-#[derive(Clone, Copy)]
-pub enum EdgesAnswer {
-    Written,
-    // The lent edges keep what they hold.
-    Refused(Refusal),
 }

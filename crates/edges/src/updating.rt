@@ -4,29 +4,25 @@ ghost use Rattle.edges.specs.Rule.{update_call};
 ghost use Rattle.edges.specs.Answer.{edges_leaves};
 ghost use Rattle.edges.specs.Steps.{moved_from, CanMove};
 
-use crate::checking::{Checked, check};
+use crate::checking::check;
 use crate::making::is_within;
-use crate::refusal::{EdgesAnswer, Refusal};
+use crate::refusal::Refusal;
 
 // Track `track` has a new base. The edges up to its own stay, and nothing is written before every refusal is ruled out.
-pub fn update(edges: &mut [u32], track: usize, base: u32) -> EdgesAnswer
+pub fn update(edges: &mut [u32], track: usize, base: u32) -> Result<(), Refusal>
     ensures { edges_leaves result edges.new ≡ update_call edges.old track base }
 {
-    match check(edges) {
-        Checked::Found { entry } => EdgesAnswer::Refused(Refusal::Unsorted { entry }),
-        Checked::Fine => {
-            let last = edges.len() - 1;
-            if track >= last {
-                return EdgesAnswer::Refused(Refusal::TrackMissing { track });
-            }
-            let old = edges[track + 1] - edges[track];
-            if !is_within(edges[last] - old, base) {
-                return EdgesAnswer::Refused(Refusal::OverLimit { track });
-            }
-            move_from(track + 1, old, base, edges);
-            EdgesAnswer::Written
-        }
+    check(edges)?;
+    let last = edges.len() - 1;
+    if track >= last {
+        return Err(Refusal::TrackMissing { track });
     }
+    let old = edges[track + 1] - edges[track];
+    if !is_within(edges[last] - old, base) {
+        return Err(Refusal::OverLimit { track });
+    }
+    move_from(track + 1, old, base, edges);
+    Ok(())
 }
 
 // Each edge from a place on is so far behind as it was, less the old base, and the new one more.
@@ -34,9 +30,7 @@ fn move_from(from: usize, old: u32, base: u32, edges: &mut [u32])
     requires { CanMove from old base edges.old }
     ensures { edges.new ≡ moved_from from old base edges.old }
 {
-    let mut i = from;
-    while i < edges.len() {
+    for i in from..edges.len() {
         edges[i] = edges[i] - old + base;
-        i += 1;
     }
 }

@@ -1,27 +1,22 @@
 -- The call, case by case as the code goes. Assumes nothing.
-use mathlib.Core.Path.{◌≡◌, refl, ap, ap₂}
-use mathlib.Core.Bool.{Bool, true, false, and-eq-true_iff}
-use mathlib.Core.List.{List, [], ◌∷◌}
-use Prim.Native.Nat.{ℕ, suc, ◌+◌, ◌≤◌, ◌<◌}
-use native.Mathlib.Omega.{arith}
-use lib.Dec.{ltb, leb, eqb}
-use lib.ListN.{length, get_or}
-use borrow.Author.Tests.{lt-ltb, le-ltb, leb-true, eqb-true}
-use Rattle.fill.specs.Rule.{track_of, tracks_of, most_tracks, most_dots, lists_fit, first_over, Outcome, outcome, filled, refused, filled_outcome, fill_lists, fill_call}
+use Rattle.std.proofs.Common.{◌≡◌, refl, ap, ap₂, Bool, true, false, List, [], ◌∷◌, Result, Ok, Err, ℕ, suc, ◌+◌, ◌≤◌, ◌<◌, arith, ltb, leb, eqb, length, get_or, lt-ltb, le-ltb, leb-true, eqb-true}
+use Rattle.laws.specs.Tests.{both_true}
+use Rattle.fill.specs.Rule.{Track, track_of, tracks_of, most_tracks, most_dots, lists_fit, first_over, Outcome, outcome, filled, refused, filled_outcome, fill, fill_call}
 use Rattle.rounds.specs.Rests.{caps, state_of, fill_rests, lost}
 use Rattle.fill.specs.Answer.{number_of, place_of, told_by, ListsFit}
+use Rattle.fill.specs.Tracks.{in_rule}
+use Rattle.fill.specs.declared.tracks.Tracks.{Tracks}
 use Rattle.fill.specs.declared.answer.Refusal.{Refusal}
 use Rattle.fill.specs.declared.answer.Refusal.TheVariants.{Lists, Dots, Room}
-use Rattle.fill.specs.declared.answer.FillAnswer.{FillAnswer}
-use Rattle.fill.specs.declared.answer.FillAnswer.TheVariants.{Filled, Refused}
+use Rattle.fill.specs.declared.answer.Filled.{Filled}
 use Rattle.rounds.proofs.Tied.{fill-agrees}
 
 module _ (as' ls : List Bool) (rs gs : List ℕ) (fits : lists_fit (length as') (length ls) (length rs) (length gs) ≡ true) where
   pub lists-fit : ListsFit as' ls rs gs
   lists-fit =
-      let few = (and-eq-true_iff (leb (length gs) most_tracks) _).0 fits in
-      let a = (and-eq-true_iff (eqb (length as') (length gs)) _).0 few.1 in
-      let l = (and-eq-true_iff (eqb (length ls) (length gs)) _).0 a.1 in
+      let few = both_true (leb (length gs) most_tracks) _ fits in
+      let a = both_true (eqb (length as') (length gs)) _ few.1 in
+      let l = both_true (eqb (length ls) (length gs)) _ a.1 in
       record { same = record { affected = eqb-true _ _ a.0; limited = eqb-true _ _ l.0; rooms = eqb-true _ _ l.1 }; few = leb-true _ _ few.0 }
 
 module _ (dots : ℕ) (as' ls : List Bool) (rs gs : List ℕ) where
@@ -34,21 +29,21 @@ module _ (dots : ℕ) (as' ls : List Bool) (rs gs : List ℕ) where
     unfolding fill_call
     call-dots e = rw (fits, e)
 
-    module _ (d : ltb most_dots dots ≡ false) (at : ℕ) (first : at ≡ first_over (tracks_of as' ls rs)) where
-      pub call-room : at < length gs → outcome (refused 7 (1 + at)) gs ≡ fill_call dots as' ls rs gs
+    module _ (d : ltb most_dots dots ≡ false) (ts : List Track) (are : ts ≡ tracks_of as' ls rs) where
+      pub call-room : first_over ts < length gs → outcome (refused 7 (1 + first_over ts)) gs ≡ fill_call dots as' ls rs gs
       unfolding fill_call
-      call-room h = rw (fits, d, ← first, lt-ltb _ _ h)
+      call-room h = rw (fits, d, ← are, lt-ltb _ _ h)
 
-      pub call-filled : length gs ≤ at → (o : Outcome) → o ≡ filled_outcome (fill_lists dots as' ls rs) → o ≡ fill_call dots as' ls rs gs
+      pub call-filled : length gs ≤ first_over ts → (o : Outcome) → o ≡ filled_outcome (fill dots ts) → o ≡ fill_call dots as' ls rs gs
       unfolding fill_call
-      call-filled h o e = rw (fits, d, ← first, le-ltb _ _ h) e
+      call-filled h o e = rw (fits, d, ← are, le-ltb _ _ h) e
 
 -- the three steps of handing out
-pub handed : (dots : ℕ) (as' ls : List Bool) (rs cs xs ys : List ℕ) (left n : ℕ) → cs ≡ caps dots (tracks_of as' ls rs) → fill_rests dots cs ≡ state_of xs left n
-    → ys ≡ lost (caps dots (tracks_of as' ls rs)) xs → outcome (filled left n) ys ≡ filled_outcome (fill_lists dots as' ls rs)
-handed dots as' ls rs cs xs ys left n p q r =
-    let a = fill-agrees dots as' ls rs in
-    let s : fill_rests dots (caps dots (tracks_of as' ls rs)) ≡ state_of xs left n = rw p at q in
+pub handed : (dots : ℕ) (ts : Tracks) (cs xs ys : List ℕ) (left n : ℕ) → cs ≡ caps dots (in_rule ts) → fill_rests dots cs ≡ state_of xs left n
+    → ys ≡ lost (caps dots (in_rule ts)) xs → outcome (filled left n) ys ≡ filled_outcome (fill dots (in_rule ts))
+handed dots ts cs xs ys left n p q r =
+    let a = fill-agrees dots ts.affected.now ts.limited.now ts.rooms.now in
+    let s : fill_rests dots (caps dots (in_rule ts)) ≡ state_of xs left n = rw p at q in
     rw (← a.gains, ← a.left, ← a.rounds, s, r)
 
 -- ---- the promise leaves one answer, and reads no room that is not given
@@ -65,11 +60,11 @@ refusal-of (Room s) Lists n e = absurd (omega arith)
 refusal-of (Room s) Dots n e = absurd (omega arith)
 refusal-of (Room s) (Room t) n e = let h : s ≡ t = omega arith in ap Room h
 
-pub answer-of-told : (a b : FillAnswer) → told_by a ≡ told_by b → a ≡ b
-answer-of-told (Filled l m) (Filled l' m') e = let p : l ≡ l' = cc in let q : m ≡ m' = cc in ap₂ Filled p q
-answer-of-told (Filled l m) (Refused q) e = cc
-answer-of-told (Refused p) (Filled l m) e = cc
-answer-of-told (Refused p) (Refused q) e = let n : number_of p ≡ number_of q = cc in let h : place_of p ≡ place_of q = cc in ap Refused (refusal-of p q n h)
+pub answer-of-told : (a b : Result Filled Refusal) → told_by a ≡ told_by b → a ≡ b
+answer-of-told (Ok f) (Ok g) e = let p : f.leftover ≡ g.leftover = cc in let q : f.rounds ≡ g.rounds = cc in ap Ok (ap₂ (λ (l r : ℕ). record { leftover = l; rounds = r }) p q)
+answer-of-told (Ok f) (Err q) e = cc
+answer-of-told (Err p) (Ok f) e = cc
+answer-of-told (Err p) (Err q) e = let n : number_of p ≡ number_of q = cc in let h : place_of p ≡ place_of q = cc in ap Err (refusal-of p q n h)
 
 track-unread : (a l : Bool) (r s : ℕ) → (l ≡ true → r ≡ s) → track_of a l r ≡ track_of a l s
 track-unread a true r s h = ap (track_of a true) (h refl)

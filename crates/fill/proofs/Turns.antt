@@ -1,54 +1,53 @@
--- A turn and the end of each loop over the call's lists, said of lists. Assumes nothing.
-use mathlib.Core.Path.{◌≡◌, refl, ap, ◌∙◌}
-use mathlib.Core.List.{List, [], ◌∷◌}
-use mathlib.Core.Bool.{Bool, true, false, cond}
-use Prim.Native.Nat.{ℕ, suc, ◌+◌, ◌-◌, ◌≤◌, ◌<◌}
-use lib.ListN.{length, get_or, drop, drop_of_length-le}
+-- A turn and the end of each loop over a call's tracks. Assumes nothing.
+use Rattle.std.proofs.Common.{◌≡◌, refl, ap, ◌∙◌, List, [], ◌∷◌, Bool, true, false, cond, ℕ, suc, ◌+◌, ◌-◌, ◌≤◌, ◌<◌, length, drop, drop_of_length-le, arith}
 use Rattle.laws.specs.Walk.{next}
-use Rattle.fill.specs.Rule.{Track, track_of, tracks_of, room_over, first_over}
+use Rattle.fill.specs.Rule as Rule
+use Rattle.fill.specs.Rule.{track_of, tracks_of, room_over, first_over}
 use Rattle.rounds.specs.Rests.{cap_of, caps, lost}
+use Rattle.fill.specs.declared.tracks.Tracks.{Tracks}
+use Rattle.fill.specs.Tracks.{track_at}
 
 -- the tracks from i on
-abbrev pub tracks_from : List Bool → List Bool → List ℕ → ℕ → List Track
-tracks_from as' ls rs i = tracks_of (drop i as') (drop i ls) (drop i rs)
+abbrev pub rest_from : Tracks → ℕ → List Rule.Track
+rest_from ts i = tracks_of (drop i ts.affected.now) (drop i ts.limited.now) (drop i ts.rooms.now)
 
-module _ (as' ls : List Bool) (rs : List ℕ) (i : ℕ) (a : i < length as') (l : i < length ls) (r : i < length rs) where
-  abbrev pub track_here : Track
-  track_here = track_of (get_or as' i false) (get_or ls i false) (get_or rs i 0)
-
-  tracks-step : tracks_from as' ls rs i ≡ track_here ∷ tracks_from as' ls rs (i + 1)
+module _ (ts : Tracks) (i : ℕ) (h : i < length ts.rooms.now) where
+  next-track : rest_from ts i ≡ track_at ts i ∷ rest_from ts (i + 1)
   unfolding tracks_of
-  tracks-step = rw (next as' i false, next ls i false, next rs i 0)
+  next-track =
+      let a : i < length ts.affected.now = omega (arith, ts.fit.same.affected) in
+      let l : i < length ts.limited.now = omega (arith, ts.fit.same.limited) in
+      rw (next ts.affected.now i false, next ts.limited.now i false, next ts.rooms.now i 0)
 
-  pub caps-step : (dots v : ℕ) → v ≡ cap_of dots track_here → caps dots (tracks_from as' ls rs i) ≡ v ∷ caps dots (tracks_from as' ls rs (i + 1))
+  pub next-cap : (dots v : ℕ) → v ≡ cap_of dots (track_at ts i) → caps dots (rest_from ts i) ≡ v ∷ caps dots (rest_from ts (i + 1))
   unfolding caps
-  caps-step dots v e = rw (tracks-step, e)
+  next-cap dots v e = rw (next-track, e)
 
-  pub lost-step : (dots x v : ℕ) (xs : List ℕ) → v ≡ cap_of dots track_here - x
-      → lost (caps dots (tracks_from as' ls rs i)) (x ∷ xs) ≡ v ∷ lost (caps dots (tracks_from as' ls rs (i + 1))) xs
+  pub next-lost : (dots x v : ℕ) (xs : List ℕ) → v ≡ cap_of dots (track_at ts i) - x
+      → lost (caps dots (rest_from ts i)) (x ∷ xs) ≡ v ∷ lost (caps dots (rest_from ts (i + 1))) xs
   unfolding lost
-  lost-step dots x v xs e = rw (caps-step dots _ refl, e)
+  next-lost dots x v xs e = rw (next-cap dots _ refl, e)
 
   -- this track's room is over, or the first that is lies further on
-  first-over-step : (b : Bool) → room_over track_here.room ≡ b → first_over (tracks_from as' ls rs i) ≡ cond b 0 (suc (first_over (tracks_from as' ls rs (i + 1))))
+  next-over : (b : Bool) → room_over (track_at ts i).room ≡ b → first_over (rest_from ts i) ≡ cond b 0 (suc (first_over (rest_from ts (i + 1))))
   unfolding first_over
-  first-over-step b e = ap first_over tracks-step ∙ ap (λ (b : Bool). cond b 0 (suc (first_over (tracks_from as' ls rs (i + 1))))) e
+  next-over b e = ap first_over next-track ∙ ap (λ (b : Bool). cond b 0 (suc (first_over (rest_from ts (i + 1))))) e
 
-  pub over-hit : room_over track_here.room ≡ true → first_over (tracks_from as' ls rs i) ≡ 0
-  over-hit e = first-over-step true e
+  pub over-here : room_over (track_at ts i).room ≡ true → first_over (rest_from ts i) ≡ 0
+  over-here e = next-over true e
 
-  pub over-miss : room_over track_here.room ≡ false → first_over (tracks_from as' ls rs i) ≡ suc (first_over (tracks_from as' ls rs (i + 1)))
-  over-miss e = first-over-step false e
+  pub over-behind : room_over (track_at ts i).room ≡ false → first_over (rest_from ts i) ≡ suc (first_over (rest_from ts (i + 1)))
+  over-behind e = next-over false e
 
-module _ (as' ls : List Bool) (rs : List ℕ) (i : ℕ) (h : length as' ≤ i) where
-  tracks-end : tracks_from as' ls rs i ≡ []
+module _ (ts : Tracks) (i : ℕ) (h : length ts.rooms.now ≤ i) where
+  no-track : rest_from ts i ≡ []
   unfolding tracks_of
-  tracks-end = rw (drop_of_length-le as')
+  no-track = let a : length ts.affected.now ≤ i = omega (arith, ts.fit.same.affected) in rw (drop_of_length-le ts.affected.now)
 
-  pub caps-end : (dots : ℕ) → caps dots (tracks_from as' ls rs i) ≡ []
+  pub no-cap : (dots : ℕ) → caps dots (rest_from ts i) ≡ []
   unfolding caps
-  caps-end dots = ap (caps dots) tracks-end
+  no-cap dots = ap (caps dots) no-track
 
-  pub over-end : first_over (tracks_from as' ls rs i) ≡ 0
+  pub none-over : first_over (rest_from ts i) ≡ 0
   unfolding first_over
-  over-end = ap first_over tracks-end
+  none-over = ap first_over no-track

@@ -1,3 +1,4 @@
 pub mod Rule
 pub mod Demand
 pub mod Answer
+pub mod Tracks

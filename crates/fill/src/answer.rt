@@ -12,10 +12,11 @@ pub enum Refusal {
     Room { track: u8 },
 }
 
+// What stays over of the dots, and the rounds that it took.
 #[derive(Clone, Copy)]
-pub enum FillAnswer {
-    Filled { leftover: u32, rounds: u32 },
-    Refused(Refusal),
+pub struct Filled {
+    pub leftover: u32,
+    pub rounds: u32,
 }
 
 impl Refusal {

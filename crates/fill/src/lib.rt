@@ -6,16 +6,17 @@
 #![tactic(auto)]
 
 mod answer;
-mod limits;
-mod lists;
+mod tracks;
 
-ghost use Rattle.std.specs.Prelude.{◌≡◌};
-ghost use Rattle.fill.specs.Rule.{filled, outcome, filled_outcome, fill_lists, fill_call};
-ghost use Rattle.fill.specs.Answer.{leaves, ListsFit};
+ghost use Rattle.std.specs.Prelude.{◌≡◌, length};
+ghost use Rattle.fill.specs.Rule.{filled, outcome, filled_outcome, fill_call};
+ghost use Rattle.rounds.specs.Rule.{fill};
+ghost use Rattle.fill.specs.Answer.{leaves};
+ghost use Rattle.fill.specs.Tracks.{in_rule};
 
-pub use answer::{FillAnswer, Refusal};
-use limits::Space;
-use rounds::Rounds;
+pub use answer::{Filled, Refusal};
+use kinds::Constraint;
+use tracks::Tracks;
 
 // Hands out the dots. Where the call is refused the gains keep what they hold; else each is written, 0 for a track that
 // is not affected.
@@ -25,40 +26,27 @@ pub fn fill(
     limited: &[bool],
     rooms: &[u32],
     gains: &mut [u32],
-) -> FillAnswer
+) -> Result<Filled, Refusal>
     ensures { leaves result gains.new ≡ fill_call dots affected.now limited.now rooms.now gains.old }
 {
-    let fits = lists::lists_fit(affected.len(), limited.len(), rooms.len(), gains.len());
-    if !fits {
-        return FillAnswer::Refused(Refusal::Lists);
+    let tracks = Tracks::of(affected, limited, rooms, gains.len())?;
+    if dots > Constraint::MOST {
+        return Err(Refusal::Dots);
     }
-    if Space::new(dots).is_over() {
-        return FillAnswer::Refused(Refusal::Dots);
-    }
-    let track = lists::first_over(affected, limited, rooms);
-    if track < gains.len() {
-        return FillAnswer::Refused(Refusal::Room { track: track as u8 });
-    }
-    let done = hand_out(dots, affected, limited, rooms, gains);
-    FillAnswer::Filled {
-        leftover: done.left,
-        rounds: done.rounds,
-    }
+    tracks.check_rooms()?;
+    Ok(hand_out(dots, &tracks, gains))
 }
 
 // The fill of lists that fit: each track's rest is loaded, the rounds are run, and what each rest lost is its gain.
-fn hand_out(
-    dots: u32,
-    affected: &[bool],
-    limited: &[bool],
-    rooms: &[u32],
-    gains: &mut [u32],
-) -> Rounds
-    requires { ListsFit affected.now limited.now rooms.now gains.old }
-    ensures { outcome (filled result.left result.rounds) gains.new ≡ filled_outcome (fill_lists dots affected.now limited.now rooms.now) }
+fn hand_out(dots: u32, tracks: &Tracks, gains: &mut [u32]) -> Filled
+    requires { length gains.old ≡ length tracks.now.rooms.now }
+    ensures { outcome (filled result.leftover result.rounds) gains.new ≡ filled_outcome (fill dots (in_rule tracks.now)) }
 {
-    lists::load(dots, affected, limited, rooms, gains);
+    tracks.load(dots, gains);
     let done = rounds::run_rounds(dots, gains);
-    lists::to_gains(dots, affected, limited, rooms, gains);
-    done
+    tracks.to_gains(dots, gains);
+    Filled {
+        leftover: done.left,
+        rounds: done.rounds,
+    }
 }

@@ -4,32 +4,17 @@ ghost use Rattle.fill.specs.Rule.{outcome, fill_call};
 ghost use Rattle.fill.specs.Answer.{told_by};
 ghost use Rattle.fill_vectors.specs.Wanted.{told_as};
 
-use cases::{Wanted, same};
-use fill::FillAnswer;
+use cases::Wanted;
+use fill::{Filled, Refusal};
 
 // A case wants a refusal's number and place, or a fill's leftover and rounds.
-fn is_met_by(wanted: Wanted, answer: FillAnswer) -> bool
-    ensures { result ≡ true → told_by answer ≡ told_as wanted.is_refusal wanted.first wanted.second }
+fn is_met_by(wanted: Wanted, answer: Result<Filled, Refusal>) -> bool
+    ensures { result ≡ true → told_by answer ≡ told_as wanted }
 {
-    match answer {
-        FillAnswer::Filled { leftover, rounds } => {
-            if wanted.is_refusal {
-                return false;
-            }
-            if wanted.first != leftover {
-                return false;
-            }
-            wanted.second == rounds
-        }
-        FillAnswer::Refused(refusal) => {
-            if !wanted.is_refusal {
-                return false;
-            }
-            if wanted.first != refusal.number() {
-                return false;
-            }
-            wanted.second == refusal.place()
-        }
+    match (wanted, answer) {
+        (Ok(told), Ok(filled)) => told.first == filled.leftover && told.second == filled.rounds,
+        (Err(told), Err(refusal)) => told.is(refusal.number(), refusal.place() as usize),
+        _ => false,
     }
 }
 
@@ -44,11 +29,8 @@ pub fn is_given(
     gains: &mut [u32],
     after: &[u32],
 ) -> bool
-    ensures { result ≡ true → outcome (told_as wanted.is_refusal wanted.first wanted.second) after.now ≡ fill_call dots affected.now limited.now rooms.now gains.old }
+    ensures { result ≡ true → outcome (told_as wanted) after.now ≡ fill_call dots affected.now limited.now rooms.now gains.old }
 {
     let answer = fill::fill(dots, affected, limited, rooms, gains);
-    if !is_met_by(wanted, answer) {
-        return false;
-    }
-    same(gains, after)
+    is_met_by(wanted, answer) && *gains == *after
 }

@@ -5,22 +5,6 @@
 mod case;
 mod compare;
 
-use cases::Walk;
-
-fn check_all(text: &[u8]) {
-    let mut walk = Walk::new(text);
-    while walk.at < text.len() {
-        let checked = case::check_case(text, walk.case(text));
-        walk = walk.counted(text, checked);
-    }
-    walk.print(b"fill_vectors", text);
-}
-
 fn main(rt: HostRuntime) {
-    let mut text = cases::buffer();
-    let loaded = cases::load(&rt, b"fill_vectors", &mut text);
-    let length = loaded.length;
-    if loaded.is_whole {
-        check_all(&text[..length]);
-    }
+    cases::run(&rt, "fill_vectors", case::check_case);
 }

@@ -2,7 +2,7 @@
 use mathlib.Core.Path.{◌≡◌, refl, sym, ap, ◌∙◌}
 use mathlib.Core.Bool.{Bool, true, false}
 use mathlib.Core.List.{List, [], ◌∷◌, map}
-use Prim.Native.Nat.{ℕ, zero, suc, ◌-◌, ◌≤◌, ◌<◌}
+use Prim.Native.Nat.{ℕ, zero, suc, ◌≤◌}
 use native.Mathlib.Omega.{arith}
 use lib.ListN.{length, length-map}
 use Rattle.laws.specs.Lists.{some}
@@ -36,9 +36,8 @@ module _ (n space : ℕ) (ts : List Flex) where
 
 -- a restart, and where there is none
 module _ (space : ℕ) (ts : List Flex) (fr w : Fr) (e : fr ≡ fr_now space ts) where
-  pub search-turn : (n : ℕ) → 0 < n → some (short fr) ts ≡ true → search n space ts ≡ w → search (n - 1) space (map (hold fr) ts) ≡ w
-  search-turn zero h s p = absurd (omega arith)
-  search-turn (suc n) h s p = let m : suc n - 1 ≡ n = omega arith in rw (m, e) (sym (search-more n space ts (rw e at s)) ∙ p)
+  pub search-turn : (n : ℕ) → some (short fr) ts ≡ true → search (suc n) space ts ≡ w → search n space (map (hold fr) ts) ≡ w
+  search-turn n s p = rw e (sym (search-more n space ts (rw e at s)) ∙ p)
 
   pub search-done : (n : ℕ) → some (short fr) ts ≡ false → search n space ts ≡ w → fr ≡ w
   unfolding search
@@ -52,11 +51,11 @@ module _ (space : ℕ) (ts : List Flex) (fr w : Fr) (e : fr ≡ fr_now space ts)
 
 -- the same of a store: its marks at the start, and after a walk
 module _ (space : ℕ) (rows : List Row) (held : List Bool) where
-  pub search-start : held ≡ held_first (lines_of rows) → search (length rows) space (flexes (lines_of rows) held) ≡ search_over space (lines_of rows)
+  pub search-start : (left : ℕ) → left ≡ length rows → held ≡ held_first (lines_of rows) → search left space (flexes (lines_of rows) held) ≡ search_over space (lines_of rows)
   unfolding search_over
-  search-start e = rw (e, flexes-first, length-map)
+  search-start left l e = rw (l, e, flexes-first, length-map)
 
-  pub search-again : (left : ℕ) (more : Bool) (fr w : Fr) (marks : List Bool) → fr ≡ fr_now space (flexes (lines_of rows) held)
-      → more ≡ some (short fr) (flexes (lines_of rows) held) → marks ≡ held_next fr (lines_of rows) held → more ≡ true → 0 < left
-      → search left space (flexes (lines_of rows) held) ≡ w → search (left - 1) space (flexes (lines_of rows) marks) ≡ w
-  search-again left more fr w marks e s m t h p = rw (m, flexes-next) (search-turn space (flexes (lines_of rows) held) fr w e left h (sym s ∙ t) p)
+  pub search-again : (left next : ℕ) (more : Bool) (fr w : Fr) (marks : List Bool) → fr ≡ fr_now space (flexes (lines_of rows) held)
+      → more ≡ some (short fr) (flexes (lines_of rows) held) → marks ≡ held_next fr (lines_of rows) held → more ≡ true → left ≡ suc next
+      → search left space (flexes (lines_of rows) held) ≡ w → search next space (flexes (lines_of rows) marks) ≡ w
+  search-again left next more fr w marks e s m t h p = rw (m, flexes-next) (search-turn space (flexes (lines_of rows) held) fr w e next (sym s ∙ t) (rw h at p))

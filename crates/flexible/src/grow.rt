@@ -7,7 +7,6 @@ ghost use Rattle.flexible.specs.Flexes.{FrFits, FactorFits};
 
 use crate::tracks;
 use lines::{Fr, Line, with_sizes};
-use rounds::larger;
 
 // Each fr track becomes the larger of base and factor times fr.
 pub fn expand(fr: Fr, lines: &mut [[u32; 8]])
@@ -15,11 +14,8 @@ pub fn expand(fr: Fr, lines: &mut [[u32; 8]])
     requires lines_fit { LinesFit (lines_of lines.old) }
     ensures { lines_of lines.new ≡ expand fr (lines_of lines.old) }
 {
-    let mut i = 0;
-    while i < lines.len() {
-        let row = lines[i];
-        lines[i] = flexed(fr, row);
-        i += 1;
+    for row in lines.iter_mut() {
+        *row = flexed(fr, *row);
     }
 }
 
@@ -35,7 +31,7 @@ fn flexed(fr: Fr, row: [u32; 8]) -> [u32; 8]
     let dots = fr.dots as u64;
     let per = fr.per as u64;
     let share = factor as u64 * dots / per;
-    let grown = larger(line.base, share as u32);
-    let base = tracks::choose(is_fr, grown, line.base);
+    let grown = line.base.max(share as u32);
+    let base = if is_fr { grown } else { line.base };
     with_sizes(row, base, limit, line.growable)
 }

@@ -1,4 +1,5 @@
-// The flexible tracks: step 6 of the sizing (the rule is in the specs of lines).
+// The flexible tracks: step 6 of the sizing (the rule is in the specs of lines). Lines and marks stay two lent slices: no heap, and a struct
+// of them would be no plainer (spans/src/batch.rt says why).
 #![tactic(auto)]
 
 mod grow;
@@ -11,31 +12,24 @@ ghost use Rattle.rounds.specs.Rule.{most_dots};
 ghost use Rattle.kinds.specs.Kinds.{constraint_number};
 ghost use Rattle.lines.specs.Rule.{bases, expand};
 ghost use Rattle.lines.specs.Rows.{lines_of};
-ghost use Rattle.lines.specs.Chains.{chained, ChainFits};
+ghost use Rattle.lines.specs.Fits.{MeasuredFit};
 ghost use Rattle.flexible.specs.Flexes.{fr_over, StoreFits};
 
 pub use grow::expand;
 use kinds::Constraint;
-use lines::Fr;
+use lines::{Chain, Fr};
 pub use max_content::{bases_fr, max_content_fr};
 pub use search::search_over;
 
-// Step 6 whole: every fr track grows, by cases on the expansion space. `total` is the sum of the bases.
-pub fn flex(
-    e: Constraint,
-    total: u64,
-    first: usize,
-    nexts: &[usize],
-    items: &[[u32; 7]],
-    lines: &mut [[u32; 8]],
-    held: &mut [bool],
-)
+// Step 6 whole: every fr track grows, by cases on the expansion space. `total` is the sum of the bases, and the batch has the items that
+// cross an fr track.
+pub fn flex(e: Constraint, total: u64, batch: &Chain<'_>, lines: &mut [[u32; 8]], held: &mut [bool])
     requires store_fits { StoreFits lines.old held.old }
-    requires chain_fits { ChainFits (length lines.old) items.now nexts.now first }
+    requires batch_fits { MeasuredFit (length lines.old) batch.now }
     requires total_value { (total ≡ bases (lines_of lines.old)) × (constraint_number e ≤ most_dots) }
-    ensures { lines_of lines.new ≡ expand (fr_over e (chained items.now nexts.now first) (lines_of lines.old)) (lines_of lines.old) }
+    ensures { lines_of lines.new ≡ expand (fr_over e batch.now (lines_of lines.old)) (lines_of lines.old) }
 {
-    let fr = fr_over(e, total, first, nexts, items, lines, held);
+    let fr = fr_over(e, total, batch, lines, held);
     grow::expand(fr, lines);
 }
 
@@ -43,25 +37,18 @@ pub fn flex(
 fn fr_over(
     e: Constraint,
     total: u64,
-    first: usize,
-    nexts: &[usize],
-    items: &[[u32; 7]],
+    batch: &Chain<'_>,
     lines: &[[u32; 8]],
     held: &mut [bool],
 ) -> Fr
     requires store_fits { StoreFits lines.now held.old }
-    requires chain_fits { ChainFits (length lines.now) items.now nexts.now first }
+    requires batch_fits { MeasuredFit (length lines.now) batch.now }
     requires total_value { total ≡ bases (lines_of lines.now) }
-    ensures { result ≡ fr_over e (chained items.now nexts.now first) (lines_of lines.now) }
+    ensures { result ≡ fr_over e batch.now (lines_of lines.now) }
 {
     match e {
-        Constraint::Definite(n) => {
-            if total < n as u64 {
-                return search::search_over(n, lines, held);
-            }
-            Fr { dots: 0, per: 1000 }
-        }
-        Constraint::MinContent => Fr { dots: 0, per: 1000 },
-        Constraint::MaxContent => max_content::max_content_fr(first, nexts, items, lines, held),
+        Constraint::Definite(n) if total < n as u64 => search::search_over(n, lines, held),
+        Constraint::MaxContent => max_content::max_content_fr(batch, lines, held),
+        _ => Fr { dots: 0, per: 1000 },
     }
 }

@@ -8,7 +8,6 @@ ghost use Rattle.flexible.specs.Flexes.{flex_at, flexes, held_first, held_next, 
 
 use crate::tracks;
 use lines::Fr;
-use rounds::{larger, less};
 
 // Restarts, no more of them than lines: each holds one line more.
 pub fn search_over(space: u32, lines: &[[u32; 8]], held: &mut [bool]) -> Fr
@@ -16,14 +15,12 @@ pub fn search_over(space: u32, lines: &[[u32; 8]], held: &mut [bool]) -> Fr
     ensures { result ≡ search_over space (lines_of lines.now) }
 {
     hold_first(lines, held);
-    let mut left = lines.len();
-    while left > 0 {
+    for _ in 0..lines.len() {
         let fr = fr_now(space, lines, held);
         let more = hold_short(fr, lines, held);
         if !more {
             return fr;
         }
-        left -= 1;
     }
     fr_now(space, lines, held)
 }
@@ -33,12 +30,8 @@ fn hold_first(lines: &[[u32; 8]], held: &mut [bool])
     requires { length held.old ≡ length lines.now }
     ensures { held.new ≡ held_first (lines_of lines.now) }
 {
-    let mut i = 0;
-    while i < held.len() {
-        let row = lines[i];
-        let fr = tracks::row_is_fr(row);
-        held[i] = !fr;
-        i += 1;
+    for (i, mark) in held.iter_mut().enumerate() {
+        *mark = !tracks::row_is_fr(lines[i]);
     }
 }
 
@@ -49,17 +42,16 @@ fn fr_now(space: u32, lines: &[[u32; 8]], held: &[bool]) -> Fr
 {
     let mut sizes: u32 = 0;
     let mut factors: u32 = 0;
-    let mut i = 0;
-    while i < lines.len() {
+    for i in 0..lines.len() {
         let row = lines[i];
         let mark = held[i];
-        sizes += tracks::choose(mark, row[4], 0);
-        factors += tracks::choose(mark, 0, tracks::maximum_number(row));
-        i += 1;
+        let factor = tracks::maximum_number(row);
+        sizes += if mark { row[4] } else { 0 };
+        factors += if mark { 0 } else { factor };
     }
     Fr {
-        dots: less(space, sizes),
-        per: larger(1000, factors),
+        dots: space.saturating_sub(sizes),
+        per: factors.max(1000),
     }
 }
 
@@ -83,14 +75,10 @@ fn hold_short(fr: Fr, lines: &[[u32; 8]], held: &mut [bool]) -> bool
         × (held.new ≡ held_next fr (lines_of lines.now) held.old) }
 {
     let mut any = false;
-    let mut i = 0;
-    while i < held.len() {
-        let row = lines[i];
-        let mark = held[i];
-        let short = is_short(fr, row, mark);
-        held[i] = short | mark;
+    for (i, mark) in held.iter_mut().enumerate() {
+        let short = is_short(fr, lines[i], *mark);
+        *mark = short | *mark;
         any = short | any;
-        i += 1;
     }
     any
 }

@@ -1,5 +1,5 @@
 // What the search asks of a track.
-ghost use Rattle.std.specs.Prelude.{◌≡◌, cond};
+ghost use Rattle.std.specs.Prelude.{◌≡◌};
 ghost use Rattle.spanned.specs.Rule.{is_fr};
 ghost use Rattle.lines.specs.Rule.{number};
 ghost use Rattle.lines.specs.Rows.{line_of};
@@ -19,20 +19,8 @@ pub(crate) fn maximum_number(row: [u32; 8]) -> u32
     ensures { result ≡ number (line_of row) }
 {
     let line = Line::of_row(row);
-    let track = line.track;
-    let maximum = track.maximum;
-    match maximum {
-        Maximum::Fixed(n) => n,
-        Maximum::Auto => 0,
-        Maximum::MinContent => 0,
-        Maximum::MaxContent => 0,
-        Maximum::FitContent(n) => n,
-        Maximum::Fr(n) => n,
+    match line.track.maximum {
+        Maximum::Fixed(n) | Maximum::FitContent(n) | Maximum::Fr(n) => n,
+        _ => 0,
     }
-}
-
-pub(crate) fn choose(first: bool, a: u32, b: u32) -> u32
-    ensures { result ≡ cond first a b }
-{
-    if first { a } else { b }
 }

@@ -17,8 +17,7 @@ use Rattle.float_laws.specs.Sum.{sum_of}
 use Rattle.float_laws.proofs.Agree.{max-with-zero-agrees}
 use Rattle.float_laws.proofs.Clear.{sub-not-minus-zero}
 use Rattle.float_domain.specs.declared.kind.Kind.TheVariants.{Size}
-use Rattle.float_track.specs.declared.space.OptionalSize.{OptionalSize}
-use Rattle.float_track.specs.declared.space.OptionalSize.TheVariants.{Given, Absent}
+use Rattle.std.specs.Prelude.{Option, Some, None}
 use Rattle.float_gutters.specs.declared.AlignContent.{AlignContent}
 use Rattle.float_gutters.specs.Gutters.{inner_weight, itself, adjustment, adjustment_of, gutter_adjustment}
 use Rattle.float_agreement.specs.Rust.{IsRustMax, rust_adjustment_of, rust_gutter_adjustment}
@@ -42,17 +41,17 @@ module _ (rust_max : Float → Float → Float) (keeps : IsRustMax rust_max) whe
       max-with-zero-agrees difference (rust_max zero32 difference) (sub-fits binary32 size total)
       (sub-not-nan size total (size-clear size p).1 (size-finite size p) total-clear.1) (sub-not-minus-zero size total (size-clear size p) total-clear) (keeps zero32 difference)
 
-  adjustment-agrees : (alignment : AlignContent) (inner : OptionalSize) (known : List Bool) (estimates : List Float) → GutterInputs inner known estimates
+  adjustment-agrees : (alignment : AlignContent) (inner : Option Float) (known : List Bool) (estimates : List Float) → GutterInputs inner known estimates
       → leb (length known) 1 ≡ false → rust_adjustment_of rust_max alignment inner known estimates ≡ adjustment_of alignment inner known estimates
-  adjustment-agrees alignment Absent known estimates h more = refl
-  adjustment-agrees alignment (Given size) known estimates h more =
+  adjustment-agrees alignment None known estimates h more = refl
+  adjustment-agrees alignment (Some size) known estimates h more =
       ap (λ (free : Float). adjustment alignment (cond (every itself known) free zero32) (length known))
       (larger-agrees size estimates h.inner-size h.sizes (λ (none : length estimates ≡ 0). few (sym h.estimates-length ∙ none)))
     where
       few : length known ≡ 0 → ⊥
       few e = never (le-leb (length known) 1 (omega (arith, e))) more
 
-pub gutter-adjustment-agrees : (rust_max : Float → Float → Float) → IsRustMax rust_max → (alignment : AlignContent) (inner : OptionalSize) (known : List Bool) (estimates : List Float)
+pub gutter-adjustment-agrees : (rust_max : Float → Float → Float) → IsRustMax rust_max → (alignment : AlignContent) (inner : Option Float) (known : List Bool) (estimates : List Float)
     → GutterInputs inner known estimates → rust_gutter_adjustment rust_max alignment inner known estimates ≡ gutter_adjustment alignment inner known estimates
 gutter-adjustment-agrees rust_max keeps alignment inner known estimates h =
     unless-cond (leb (length known) 1) zero32 (cond (eqb (inner_weight alignment) 0) zero32 (rust_adjustment_of rust_max alignment inner known estimates)) (cond (eqb (inner_weight alignment) 0) zero32 (adjustment_of alignment inner known estimates))

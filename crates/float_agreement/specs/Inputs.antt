@@ -1,6 +1,6 @@
 -- What a call that is not refused is known to be handed, and the theorems ask: each number is an f32 in the domain of its kind, as refusal 13 tests it,
 -- and the lists have the lengths that 12 asks. Assumes nothing.
-use Rattle.std.specs.Prelude.{◌≡◌, Bool, true, List, length, get_or, Float}
+use Rattle.std.specs.Prelude.{◌≡◌, Bool, true, Option, Some, None, List, length, get_or, Float}
 use Rattle.std.specs.Float.{nan}
 use Rattle.laws.specs.Lists.{All}
 use Rattle.float_laws.specs.Numbers.{IsF32}
@@ -9,8 +9,6 @@ use Rattle.float_domain.specs.declared.kind.Kind.TheVariants.{Size, Limit, Facto
 use Rattle.float_domain.specs.Domain.{in_domain}
 use Rattle.float_track.specs.declared.space.AvailableSpace.{AvailableSpace}
 use Rattle.float_track.specs.declared.space.AvailableSpace.TheVariants.{Definite, MinContent, MaxContent}
-use Rattle.float_track.specs.declared.space.OptionalSize.{OptionalSize}
-use Rattle.float_track.specs.declared.space.OptionalSize.TheVariants.{Given, Absent}
 use Rattle.float_distribution.specs.Distribution.{OneLength}
 
 -- x is an f32 in the domain of its kind
@@ -26,9 +24,9 @@ pub record TrackInputs (row : List Float) : Type 0 where
   pub incurred : IsOf Size (get_or row 4 nan)
 
 -- nothing is asked of an absent size, or of a space that is not definite
-abbrev pub SizeInput : OptionalSize → Type 0
-SizeInput (Given size) = IsOf Size size
-SizeInput Absent = Unit {0}
+abbrev pub SizeInput : Option Float → Type 0
+SizeInput (Some size) = IsOf Size size
+SizeInput None = Unit {0}
 
 abbrev pub SpaceInput : AvailableSpace → Type 0
 SpaceInput (Definite space) = IsOf Size space
@@ -42,7 +40,7 @@ pub record FrInputs (rows : List (List Float)) (fs : List Bool) (xs : List Float
   pub factors : All (IsOf Factor) xs
   pub filled : IsOf Size space
 
-pub record GutterInputs (inner : OptionalSize) (known : List Bool) (estimates : List Float) : Type 0 where
+pub record GutterInputs (inner : Option Float) (known : List Bool) (estimates : List Float) : Type 0 where
   pub estimates-length : length estimates ≡ length known
   pub inner-size : SizeInput inner
   pub sizes : All (IsOf Size) estimates
@@ -61,7 +59,7 @@ pub record MaximiseInputs (rows : List (List Float)) (limits : List Float) : Typ
   pub tracks : All TrackInputs rows
   pub fit-content : All (IsOf Limit) limits
 
-pub record StretchInputs (rows : List (List Float)) (autos : List Bool) (minimum : OptionalSize) (space : AvailableSpace) : Type 0 where
+pub record StretchInputs (rows : List (List Float)) (autos : List Bool) (minimum : Option Float) (space : AvailableSpace) : Type 0 where
   pub autos-length : length autos ≡ length rows
   pub tracks : All TrackInputs rows
   pub minimum-size : SizeInput minimum

@@ -1,6 +1,6 @@
 -- The routines in the Rust's own forms: `f32::min`, `f32::max` and `min_by(total_cmp)` stand where ours compare with `<`. All else is as in the routines' own specs.
 -- What the minimum and the maximum are is left open: a theorem takes any two that keep Rust's documentation. Assumes nothing.
-use Rattle.std.specs.Prelude.{Bool, true, false, cond, ℕ, zero, suc, ◌+◌, leb, eqb, length, get_or, replicate, Float}
+use Rattle.std.specs.Prelude.{Bool, true, false, cond, Option, Some, None, ℕ, zero, suc, ◌+◌, leb, eqb, length, get_or, replicate, Float}
 use mathlib.Core.List.{List, [], ◌∷◌, map, zip_with}
 use Rattle.std.specs.Float.Ieee as Ieee
 use Rattle.std.specs.Float.{nan, binary32}
@@ -9,8 +9,6 @@ use Rattle.float_laws.specs.Numbers.{zero32, one32, infinity}
 use Rattle.float_laws.specs.Std.{MinAllows, MaxAllows, min_by_total}
 use Rattle.float_laws.specs.Sum.{sum_of}
 use Rattle.float_track.specs.declared.space.AvailableSpace.{AvailableSpace}
-use Rattle.float_track.specs.declared.space.OptionalSize.{OptionalSize}
-use Rattle.float_track.specs.declared.space.OptionalSize.TheVariants.{Given, Absent}
 use Rattle.float_track.specs.Space.{free_space}
 use Rattle.float_track.specs.Track.{base_size, used_space}
 use Rattle.float_distribution.specs.Distribution.{Lists, Left, lists, left, part_at, track_at, is_open, room_of, proportion_sum, stops, one_pass}
@@ -51,12 +49,12 @@ module _ (rust_max : Float → Float → Float) where
   rust_free_of size known estimates =
       cond (every itself known) (rust_max zero32 (Ieee.sub binary32 size (sum_of estimates))) zero32
 
-  abbrev pub rust_adjustment_of : AlignContent → OptionalSize → List Bool → List Float → Float
-  rust_adjustment_of alignment (Given size) known estimates =
+  abbrev pub rust_adjustment_of : AlignContent → Option Float → List Bool → List Float → Float
+  rust_adjustment_of alignment (Some size) known estimates =
       adjustment alignment (rust_free_of size known estimates) (length known)
-  rust_adjustment_of alignment Absent known estimates = zero32
+  rust_adjustment_of alignment None known estimates = zero32
 
-  abbrev pub rust_gutter_adjustment : AlignContent → OptionalSize → List Bool → List Float → Float
+  abbrev pub rust_gutter_adjustment : AlignContent → Option Float → List Bool → List Float → Float
   rust_gutter_adjustment alignment inner known estimates =
       cond (leb (length known) 1) zero32
       (cond (eqb (inner_weight alignment) 0) zero32 (rust_adjustment_of alignment inner known estimates))

@@ -1,1 +1,2 @@
 pub mod Distribution
+pub mod Parts

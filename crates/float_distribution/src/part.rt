@@ -25,10 +25,7 @@ impl Part {
     fn is_open(self, track: Track) -> bool
         ensures { result ≡ is_open self track }
     {
-        if self.size + track.item_incurred_increase < self.limit {
-            return self.affected;
-        }
-        false
+        self.size + track.item_incurred_increase < self.limit && self.affected
     }
 
     // The sum with an open track's proportion.
@@ -57,18 +54,16 @@ impl Part {
         ensures { result ≡ grown self track share space }
     {
         let increase = share * self.proportion;
-        if self.affected {
-            if increase > 0.0 {
-                if self.size + track.item_incurred_increase + increase
-                    <= self.limit + Track::THRESHOLD
-                {
-                    track.item_incurred_increase += increase;
-                    return Grown {
-                        track,
-                        space: space - increase,
-                    };
-                }
-            }
+        if self.affected
+            && increase > 0.0
+            && self.size + track.item_incurred_increase + increase
+                <= self.limit + Track::THRESHOLD
+        {
+            track.item_incurred_increase += increase;
+            return Grown {
+                track,
+                space: space - increase,
+            };
         }
         Grown { track, space }
     }

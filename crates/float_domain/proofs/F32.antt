@@ -13,34 +13,33 @@ use denote.Enum.Declared.{row}
 use denote.Floats.{FloatOf}
 use denote.Laws.{Is}
 use denote.Shadow.{shadow}
+use Rattle.std.specs.Prelude.{Option, Some, None}
+use Rattle.std.specs.contracts.option.Option as option
 use Rattle.laws.specs.Lists.{All}
 use Rattle.laws.specs.Alls.{all-of-at}
 use Rattle.float_laws.specs.Numbers.{IsF32}
 use Rattle.float_track.specs.declared.space.AvailableSpace.{AvailableSpace}
 use Rattle.float_track.specs.declared.space.AvailableSpace.TheVariants.{Definite, MinContent, MaxContent}
 use Rattle.float_track.specs.contracts.space.AvailableSpace as space
-use Rattle.float_track.specs.declared.space.OptionalSize.{OptionalSize}
-use Rattle.float_track.specs.declared.space.OptionalSize.TheVariants.{Given, Absent}
-use Rattle.float_track.specs.contracts.space.OptionalSize as size
 
 pub f32-of-fits : (x : Float) → fits binary32 x ≡ true → IsF32 x
 f32-of-fits x e = subst T (sym e) tt
 
 -- an array's elements
-pub f32-of-elements : (xs : List Float) (us : List Val) → shadow (each Float (FloatOf binary32).own_val xs us) → All IsF32 xs
+pub f32_of_elements : (xs : List Float) (us : List Val) → shadow (each Float (FloatOf binary32).own_val xs us) → All IsF32 xs
 unfolding All
-f32-of-elements [] us h = tt
-f32-of-elements (x ∷ xs) [] h = absurd h
-f32-of-elements (x ∷ xs) (u ∷ us) h = (f32-of-fits x h.0.1, f32-of-elements xs us h.1)
+f32_of_elements [] us h = tt
+f32_of_elements (x ∷ xs) [] h = absurd h
+f32_of_elements (x ∷ xs) (u ∷ us) h = (f32-of-fits x h.0.1, f32_of_elements xs us h.1)
 
 -- what a size or a space holds, if anything
-abbrev pub SizeF32 : OptionalSize → Type 0
-SizeF32 (Given x) = IsF32 x
-SizeF32 Absent = Unit {0}
+abbrev pub SizeF32 : Option Float → Type 0
+SizeF32 (Some x) = IsF32 x
+SizeF32 None = Unit {0}
 
-pub f32-of-size : (s : OptionalSize) (vs : List Val) → Is (row size.the_type) s vs → SizeF32 s
-f32-of-size (Given x) vs h = f32-of-fits x h.1.1.1.1.0.1
-f32-of-size Absent vs h = tt
+pub f32-of-size : (s : Option Float) (vs : List Val) → Is (row (option.the_type (FloatOf binary32))) s vs → SizeF32 s
+f32-of-size (Some x) vs h = f32-of-fits x h.1.1.1.1.0.1
+f32-of-size None vs h = tt
 
 abbrev pub SpaceF32 : AvailableSpace → Type 0
 SpaceF32 (Definite x) = IsF32 x

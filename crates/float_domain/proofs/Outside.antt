@@ -1,6 +1,6 @@
 -- The numbers of a call looked through in order, what a fault says, and what lengths that fit say. Assumes nothing.
 use mathlib.Core.Path.{◌≡◌, refl, sym, ap, ◌∙◌}
-use mathlib.Core.Bool.{Bool, true, false, cond, true≢false}
+use mathlib.Core.Bool.{Bool, true, false, cond}
 use mathlib.Core.List.{List, [], ◌∷◌, ◌++◌}
 use Prim.Native.Nat.{ℕ, suc, ◌+◌, ◌*◌, ◌≤◌, ◌<◌}
 use native.Mathlib.Omega.{arith}
@@ -8,33 +8,18 @@ use lib.Dec.{eqb}
 use lib.Ieee.{Float, nan}
 use lib.ListN.{length, get_or, drop, length-map, drop_of_length-le}
 use borrow.Author.Tests.{leb-true, eqb-true}
+use Rattle.std.specs.Prelude.{Result, Ok, Err, IsErrAnd}
 use Rattle.laws.specs.Lists.{All}
 use Rattle.laws.specs.Tests.{both_true}
 use Rattle.laws.specs.Walk.{next}
 use Rattle.laws.specs.Faults.{Fault, fine, fault, first, fault-not-fine}
 use Rattle.float_laws.specs.Numbers.{most_tracks}
 use Rattle.float_domain.specs.declared.kind.Kind.{Kind}
+use Rattle.float_domain.specs.declared.kind.Kind.TheVariants.{Size, Limit}
 use Rattle.float_domain.specs.declared.refusal.Refusal.{Refusal}
 use Rattle.float_domain.specs.declared.refusal.Refusal.TheVariants as refusal
-use Rattle.float_domain.specs.declared.refusal.Fault as found
-use Rattle.float_domain.specs.declared.refusal.Fault.TheVariants.{Fine, Found}
 use Rattle.float_domain.specs.Domain.{Number, given, accepted, numbers_of, track_numbers, tracks_numbers, outside_from, lengths_fit}
-use Rattle.float_domain.specs.Answer.{number_of, place_of, fault_of, is_found}
-
--- ---- the first of two faults
-
--- what comes behind a refusal does not matter
-pub first-of-found : (f : found.Fault) (g : Fault) → is_found f ≡ true → first (fault_of f) g ≡ fault_of f
-first-of-found Fine g e = cc
-first-of-found (Found r) g e = refl
-
-pub first-of-not-found : (f : found.Fault) (g : Fault) → is_found f ≡ false → first (fault_of f) g ≡ g
-first-of-not-found Fine g e = refl
-first-of-not-found (Found r) g e = cc
-
-pub found-not-fine : (f : found.Fault) → is_found f ≡ true → fault_of f ≡ fine → ⊥
-found-not-fine Fine e h = true≢false (sym e)
-found-not-fine (Found r) e h = fault-not-fine (number_of r) (place_of r) h
+use Rattle.float_domain.specs.Answer.{number_of, place_of, fault_of}
 
 -- ---- a fault of the code is known by the rule's: from its number and place, the refusal can be made again
 
@@ -47,16 +32,16 @@ refusal-again refusal.Lengths = refl
 refusal-again refusal.Gutters = refl
 refusal-again (refusal.Outside index) = refl
 
-found_of : Fault → found.Fault
-found_of fine = Fine
-found_of (fault number place) = Found (refusal_of number place)
+found_of : Fault → Result Unit Refusal
+found_of fine = Ok tt
+found_of (fault number place) = Err (refusal_of number place)
 
-found-again : (a : found.Fault) → found_of (fault_of a) ≡ a
+found-again : (a : Result Unit Refusal) → found_of (fault_of a) ≡ a
 unfolding found_of
-found-again Fine = refl
-found-again (Found r) = ap Found (refusal-again r)
+found-again (Ok passed) = refl
+found-again (Err r) = ap Err (refusal-again r)
 
-pub found-of-fault : (a b : found.Fault) → fault_of a ≡ fault_of b → a ≡ b
+pub found-of-fault : (a b : Result Unit Refusal) → fault_of a ≡ fault_of b → a ≡ b
 found-of-fault a b e = sym (found-again a) ∙ ap found_of e ∙ found-again b
 
 -- ---- 13: numbers one after another
@@ -72,27 +57,43 @@ outside-append k (x ∷ xs) ys =
     by-test true v w e = e
     by-test false v w e = refl
 
--- the code looks at one number, and takes the first of what it finds there and behind
-pub outside-then : (k j : ℕ) (x : Number) (ys : List Number) {f g r : Fault} → r ≡ first f g
-    → f ≡ outside_from k (x ∷ []) → g ≡ outside_from j ys → j ≡ k + 1 → r ≡ outside_from k (x ∷ ys)
-outside-then k j x ys e here behind n = e ∙ rw (here, behind, n) (sym (outside-append k (x ∷ []) ys))
+-- the code looks at one number, and then at those behind it
+pub outside-cons : (k j : ℕ) (x : Number) (ys : List Number) → j ≡ k + 1 → outside_from k (x ∷ ys) ≡ first (outside_from k (x ∷ [])) (outside_from j ys)
+outside-cons k j x ys n = rw n (outside-append k (x ∷ []) ys)
 
--- the same of two runs of numbers
-pub outside-both : (k j : ℕ) (xs ys : List Number) {f g r : Fault} → r ≡ first f g → f ≡ outside_from k xs → g ≡ outside_from j ys → j ≡ k + length xs → r ≡ outside_from k (xs ++ ys)
-outside-both k j xs ys is here there next =
-    is ∙ (λ i. first (here i) ((there ∙ ap (λ (m : ℕ). outside_from m ys) next) i)) ∙ sym (outside-append k xs ys)
+-- or at a run of numbers
+pub outside-run : (k j : ℕ) (xs ys : List Number) → j ≡ k + length xs → outside_from k (xs ++ ys) ≡ first (outside_from k xs) (outside_from j ys)
+outside-run k j xs ys n = rw n (outside-append k xs ys)
 
--- The code walks numbers and has come to those from k on, of which the first ones are looked at now: f is what it finds in
--- them, and b that it is a refusal.
-module _ (k : ℕ) {all : List Number} (front rest : List Number) (parted : all ≡ front ++ rest) {whole : Fault} (walk : outside_from k all ≡ whole) (f : found.Fault) (here : fault_of f ≡ outside_from k front) {b : Bool} (is : b ≡ is_found f) where
-  found-or-behind : first (fault_of f) (outside_from (k + length front) rest) ≡ whole
-  found-or-behind = rw here (sym (outside-append k front rest) ∙ (rw parted at walk))
+-- a track's numbers, as the code looks at them
+pub track-in-order : (k : ℕ) (row : List Float) → outside_from k (track_numbers row)
+    ≡ first (outside_from k (given Size (get_or row 0 nan) ∷ []))
+    (first (outside_from (k + 1) (given Limit (get_or row 1 nan) ∷ []))
+    (first (outside_from (k + 2) (given Size (get_or row 2 nan) ∷ []))
+    (first (outside_from (k + 3) (given Size (get_or row 3 nan) ∷ [])) (outside_from (k + 4) (given Size (get_or row 4 nan) ∷ [])))))
+track-in-order k row =
+    let base = given Size (get_or row 0 nan) in
+    let limit = given Limit (get_or row 1 nan) in
+    let base-planned = given Size (get_or row 2 nan) in
+    let limit-planned = given Size (get_or row 3 nan) in
+    let incurred = given Size (get_or row 4 nan) in
+    rw (outside-cons k (k + 1) base _ refl, outside-cons (k + 1) (k + 2) limit _ (omega arith), outside-cons (k + 2) (k + 3) base-planned _ (omega arith), outside-cons (k + 3) (k + 4) limit-planned _ (omega arith)) refl
 
-  pub outside-found : b ≡ true → fault_of f ≡ whole
-  outside-found t = sym (first-of-found f _ (sym is ∙ t)) ∙ found-or-behind
+-- a refusal that is handed on is the one that was found
+pub is-refused : {T : Type 0} (r : Result T Refusal) (found : Refusal) → IsErrAnd r (λ y. y ≡ found) → r ≡ Err found
+is-refused (Ok x) found h = absurd h
+is-refused (Err y) found h = ap Err h
 
-  pub outside-next : (j : ℕ) → j ≡ k + length front → b ≡ false → outside_from j rest ≡ whole
-  outside-next j n t = rw n (sym (first-of-not-found f _ (sym is ∙ t)) ∙ found-or-behind)
+-- The code walks numbers and has come to those from k on, of which the first ones are looked at now: it finds a refusal in them, or none.
+module _ (k : ℕ) {all : List Number} (front rest : List Number) (parted : all ≡ front ++ rest) {whole : Fault} (walk : outside_from k all ≡ whole) where
+  front-first : first (outside_from k front) (outside_from (k + length front) rest) ≡ whole
+  front-first = sym (outside-append k front rest) ∙ (rw parted at walk)
+
+  pub outside-found : (r : Refusal) → fault_of (Err r) ≡ outside_from k front → fault_of (Err r) ≡ whole
+  outside-found r here = rw (← here) at front-first
+
+  pub outside-next : (j : ℕ) → j ≡ k + length front → fine ≡ outside_from k front → outside_from j rest ≡ whole
+  outside-next j n here = rw n (rw (← here) at front-first)
 
 -- the walk's end
 pub outside-end : (k : ℕ) {all : List Number} {whole : Fault} → outside_from k all ≡ whole → all ≡ [] → fine ≡ whole

@@ -1,10 +1,8 @@
 -- The code's refusals in the words of the rule, the paper's number and place of each, and its steps. Assumes nothing.
-use Rattle.std.specs.Prelude.{ℕ, ◌^◌, Bool, true, false}
+use Rattle.std.specs.Prelude.{ℕ, ◌^◌, Result, Ok, Err}
 use Rattle.laws.specs.Faults.{Fault, fine, fault}
 use Rattle.float_domain.specs.declared.refusal.Refusal.{Refusal}
 use Rattle.float_domain.specs.declared.refusal.Refusal.TheVariants.{Lengths, Gutters, Outside}
-use Rattle.float_domain.specs.declared.refusal.Fault as found
-use Rattle.float_domain.specs.declared.refusal.Fault.TheVariants.{Fine, Found}
 
 abbrev pub number_of : Refusal → ℕ
 number_of Lengths = 12
@@ -16,13 +14,10 @@ place_of Lengths = 0
 place_of Gutters = 0
 place_of (Outside index) = index
 
-abbrev pub fault_of : found.Fault → Fault
-fault_of Fine = fine
-fault_of (Found refusal) = fault (number_of refusal) (place_of refusal)
-
-abbrev pub is_found : found.Fault → Bool
-is_found Fine = false
-is_found (Found refusal) = true
+-- what a test of a call finds
+abbrev pub fault_of : Result Unit Refusal → Fault
+fault_of (Ok passed) = fine
+fault_of (Err refusal) = fault (number_of refusal) (place_of refusal)
 
 -- ---- Steps of the code
 

@@ -2,7 +2,7 @@
 ghost use Rattle.std.specs.Prelude.{◌≡◌};
 ghost use Rattle.float_domain.specs.Domain.{in_range, in_size, in_limit, in_factor, in_proportion, in_domain};
 
-use float_track::{INFINITY_BITS, SIGN_BIT};
+use float_track::SIGN_BIT;
 
 #[derive(Clone, Copy)]
 pub enum Kind {
@@ -40,12 +40,7 @@ impl Kind {
 fn in_range(least: f32, x: f32, most: f32) -> bool
     ensures { result ≡ in_range least x most }
 {
-    if x <= most {
-        if least <= x {
-            return f32::to_bits(x) < SIGN_BIT;
-        }
-    }
-    false
+    x <= most && least <= x && f32::to_bits(x) < SIGN_BIT
 }
 
 fn in_size(x: f32) -> bool
@@ -57,10 +52,7 @@ fn in_size(x: f32) -> bool
 fn in_limit(x: f32) -> bool
     ensures { result ≡ in_limit x }
 {
-    if x == f32::from_bits(INFINITY_BITS) {
-        return true;
-    }
-    in_size(x)
+    x == f32::INFINITY || in_size(x)
 }
 
 fn in_proportion(x: f32) -> bool

@@ -9,6 +9,6 @@ mod numbers;
 mod refusal;
 
 pub use kind::Kind;
-pub use lengths::{five_fit, three_fit, two_fit};
+pub use lengths::lengths_fault;
 pub use numbers::{number_fault, slice_fault, track_fault, tracks_fault};
-pub use refusal::{Fault, Refusal};
+pub use refusal::Refusal;

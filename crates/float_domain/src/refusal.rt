@@ -1,7 +1,6 @@
 // What refuses a call of a float routine, named by what is wrong, and the paper's number and place of each.
 ghost use Rattle.std.specs.Prelude.{◌≡◌};
-ghost use Rattle.laws.specs.Faults.{first};
-ghost use Rattle.float_domain.specs.Answer.{number_of, place_of, fault_of, is_found};
+ghost use Rattle.float_domain.specs.Answer.{number_of, place_of};
 
 #[derive(Clone, Copy)]
 pub enum Refusal {
@@ -28,37 +27,8 @@ impl Refusal {
         ensures { result ≡ place_of self }
     {
         match self {
-            Refusal::Lengths => 0,
-            Refusal::Gutters => 0,
+            Refusal::Lengths | Refusal::Gutters => 0,
             Refusal::Outside { index } => index,
-        }
-    }
-}
-
-// What a test of a call finds.
-#[derive(Clone, Copy)]
-pub enum Fault {
-    Fine,
-    Found(Refusal),
-}
-
-impl Fault {
-    pub(crate) fn is_found(self) -> bool
-        ensures { result ≡ is_found self }
-    {
-        match self {
-            Fault::Fine => false,
-            Fault::Found(_) => true,
-        }
-    }
-
-    // This one, or the next where this is none.
-    pub fn first(self, next: Fault) -> Fault
-        ensures { fault_of result ≡ first (fault_of self) (fault_of next) }
-    {
-        match self {
-            Fault::Fine => next,
-            Fault::Found(refusal) => Fault::Found(refusal),
         }
     }
 }

@@ -1,1 +1,2 @@
 pub mod Fr
+pub mod Flexes

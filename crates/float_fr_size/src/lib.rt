@@ -5,7 +5,7 @@
 ghost use Rattle.std.specs.Prelude.{◌≡◌, ◌<◌, length};
 ghost use Rattle.float_fr_size.specs.Fr.{grows, add_to, holds_for, flex_at, sums_of, all_hold, fr_size, FrLengths};
 
-use float_track::{INFINITY_BITS, f32_max};
+use float_track::f32_max;
 
 // What the search reads of a track.
 #[derive(Clone, Copy)]
@@ -13,6 +13,15 @@ pub(crate) struct Flex {
     flexible: bool,
     factor: f32,
     base: f32,
+}
+
+// The tracks of a search: whether each is flexible, and its factor.
+#[derive(Clone, Copy)]
+pub struct Flexes<'a> {
+    tracks: &'a [[f32; 5]],
+    flexible: &'a [bool],
+    factors: &'a [f32],
+    ghost lengths: { FrLengths tracks.now flexible.now factors.now },
 }
 
 // The base sizes of the tracks held inflexible, and the factors of the others.
@@ -27,10 +36,7 @@ impl Flex {
     fn grows(self, fr: f32) -> bool
         ensures { result ≡ grows self fr }
     {
-        if self.flexible {
-            return self.factor * fr >= self.base;
-        }
-        false
+        self.flexible && self.factor * fr >= self.base
     }
 
     fn add_to(self, fr: f32, sums: Sums) -> Sums
@@ -52,79 +58,76 @@ impl Flex {
     fn holds(self, fr: f32, previous: f32) -> bool
         ensures { result ≡ holds_for self fr previous }
     {
-        if self.flexible {
-            if self.factor * fr >= self.base {
-                return true;
+        !self.flexible || self.factor * fr >= self.base || self.factor * previous < self.base
+    }
+}
+
+impl<'a> Flexes<'a> {
+    ghost use Rattle.float_fr_size.specs.Flexes.{over};
+
+    pub fn new(tracks: &'a [[f32; 5]], flexible: &'a [bool], factors: &'a [f32]) -> Flexes<'a>
+        requires { FrLengths tracks.now flexible.now factors.now }
+        ensures { (result.tracks.now ≡ tracks.now) × (result.flexible.now ≡ flexible.now) × (result.factors.now ≡ factors.now) }
+    {
+        Flexes {
+            tracks,
+            flexible,
+            factors,
+        }
+    }
+
+    fn flex(&self, i: usize) -> Flex
+        requires { i < length self.now.tracks.now }
+        ensures { result ≡ over flex_at self.now i }
+    {
+        Flex {
+            flexible: self.flexible[i],
+            factor: self.factors[i],
+            base: self.tracks[i][0],
+        }
+    }
+
+    fn sums_of(&self, fr: f32) -> Sums
+        ensures { result ≡ over sums_of self.now fr }
+    {
+        let mut sums = Sums {
+            used: 0.0,
+            factors: 0.0,
+        };
+        for i in 0..self.tracks.len() {
+            sums = self.flex(i).add_to(fr, sums);
+        }
+        sums
+    }
+
+    fn all_hold(&self, fr: f32, previous: f32) -> bool
+        ensures { result ≡ over all_hold self.now fr previous }
+    {
+        for i in 0..self.tracks.len() {
+            if !self.flex(i).holds(fr, previous) {
+                return false;
             }
-            return self.factor * previous < self.base;
         }
         true
     }
-}
 
-fn flex_at(tracks: &[[f32; 5]], flexible: &[bool], factors: &[f32], i: usize) -> Flex
-    requires { FrLengths tracks.now flexible.now factors.now × (i < length tracks.now) }
-    ensures { result ≡ flex_at tracks.now flexible.now factors.now i }
-{
-    let row = tracks[i];
-    Flex {
-        flexible: flexible[i],
-        factor: factors[i],
-        base: row[0],
-    }
-}
-
-fn sums_of(fr: f32, tracks: &[[f32; 5]], flexible: &[bool], factors: &[f32]) -> Sums
-    requires { FrLengths tracks.now flexible.now factors.now }
-    ensures { result ≡ sums_of tracks.now flexible.now factors.now fr }
-{
-    let mut sums = Sums {
-        used: 0.0,
-        factors: 0.0,
-    };
-    let mut i = 0;
-    while i < tracks.len() {
-        let flex = flex_at(tracks, flexible, factors, i);
-        sums = flex.add_to(fr, sums);
-        i += 1;
-    }
-    sums
-}
-
-fn all_hold(fr: f32, previous: f32, tracks: &[[f32; 5]], flexible: &[bool], factors: &[f32]) -> bool
-    requires { FrLengths tracks.now flexible.now factors.now }
-    ensures { result ≡ all_hold tracks.now flexible.now factors.now fr previous }
-{
-    let mut i = 0;
-    while i < tracks.len() {
-        let flex = flex_at(tracks, flexible, factors, i);
-        if !flex.holds(fr, previous) {
-            return false;
+    // Passes until the size holds for every track, one more than there are tracks at most.
+    pub fn find_size_of_fr(&self, space: f32) -> f32
+        ensures { result ≡ over fr_size self.now space }
+    {
+        if space == 0.0 {
+            return 0.0;
         }
-        i += 1;
-    }
-    true
-}
-
-// Passes until the size holds for every track, one more than there are tracks at most.
-pub fn find_size_of_fr(tracks: &[[f32; 5]], flexible: &[bool], factors: &[f32], space: f32) -> f32
-    requires { FrLengths tracks.now flexible.now factors.now }
-    ensures { result ≡ fr_size tracks.now flexible.now factors.now space }
-{
-    if space == 0.0 {
-        return 0.0;
-    }
-    let most = tracks.len() + 1;
-    let mut fr = f32::from_bits(INFINITY_BITS);
-    let mut pass = 0;
-    while pass < most {
-        let previous = fr;
-        let sums = sums_of(previous, tracks, flexible, factors);
-        fr = (space - sums.used) / f32_max(sums.factors, 1.0);
-        if all_hold(fr, previous, tracks, flexible, factors) {
-            return fr;
+        let most = self.tracks.len() + 1;
+        let mut fr = f32::INFINITY;
+        for _ in 0..most {
+            let previous = fr;
+            let sums = self.sums_of(previous);
+            fr = (space - sums.used) / f32_max(sums.factors, 1.0);
+            if self.all_hold(fr, previous) {
+                return fr;
+            }
         }
-        pass += 1;
+        fr
     }
-    fr
 }

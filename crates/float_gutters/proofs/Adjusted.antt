@@ -6,11 +6,11 @@ use Prim.Native.Nat.{ℕ, ◌<◌}
 use lib.ListN.{length}
 use lib.Ieee.{Float}
 use borrow.Author.Tests.{lt-leb, ne_eqb}
-use Rattle.float_track.specs.declared.space.OptionalSize.{OptionalSize}
+use Rattle.std.specs.Prelude.{Option}
 use Rattle.float_gutters.specs.declared.AlignContent.{AlignContent}
 use Rattle.float_gutters.specs.Gutters.{inner_weight, adjustment_of, gutter_adjustment}
 
-pub adjusted-by-size : (alignment : AlignContent) (inner : OptionalSize) (known : List Bool) (estimates : List Float) (weight : ℕ)
+pub adjusted-by-size : (alignment : AlignContent) (inner : Option Float) (known : List Bool) (estimates : List Float) (weight : ℕ)
     → 1 < length known → weight ≡ inner_weight alignment → (weight ≡ 0 → ⊥)
     → gutter_adjustment alignment inner known estimates ≡ adjustment_of alignment inner known estimates
 adjusted-by-size alignment inner known estimates weight many weighs some =

@@ -1,13 +1,11 @@
 -- The gutter adjustment of an alignment: the Rust's float steps in the Rust's order. Assumes nothing.
-use Rattle.std.specs.Prelude.{Bool, cond, List, ◌⊎◌, ℕ, ◌+◌, ◌-◌, ◌*◌, ◌/◌, ◌≤◌, leb, eqb, pos, length, Float}
+use Rattle.std.specs.Prelude.{Bool, cond, Option, Some, None, List, ◌⊎◌, ℕ, ◌+◌, ◌-◌, ◌*◌, ◌/◌, ◌≤◌, leb, eqb, pos, length, Float}
 use Rattle.std.specs.Float.Ieee as Ieee
 use Rattle.std.specs.Float.{binary32}
 use Rattle.laws.specs.Lists.{every}
 use Rattle.float_laws.specs.Numbers.{zero32, most_tracks}
 use Rattle.float_laws.specs.Std.{max_of}
 use Rattle.float_laws.specs.Sum.{sum_of}
-use Rattle.float_track.specs.declared.space.OptionalSize.{OptionalSize}
-use Rattle.float_track.specs.declared.space.OptionalSize.TheVariants.{Given, Absent}
 use Rattle.float_gutters.specs.declared.AlignContent.{AlignContent}
 use Rattle.float_gutters.specs.declared.AlignContent.TheVariants.{Normal, Start, End, FlexStart, FlexEnd, Center, Stretch, SpaceBetween, SpaceEvenly, SpaceAround}
 
@@ -55,11 +53,11 @@ abbrev pub adjustment : AlignContent → Float → ℕ → Float
 adjustment alignment free count =
     Ieee.mul binary32 (Ieee.div binary32 free (whole32 (weighted_count alignment count))) (whole32 (inner_weight alignment))
 
-abbrev pub adjustment_of : AlignContent → OptionalSize → List Bool → List Float → Float
-adjustment_of alignment (Given size) known estimates = adjustment alignment (free_of size known estimates) (length known)
-adjustment_of alignment Absent known estimates = zero32
+abbrev pub adjustment_of : AlignContent → Option Float → List Bool → List Float → Float
+adjustment_of alignment (Some size) known estimates = adjustment alignment (free_of size known estimates) (length known)
+adjustment_of alignment None known estimates = zero32
 
-abbrev pub gutter_adjustment : AlignContent → OptionalSize → List Bool → List Float → Float
+abbrev pub gutter_adjustment : AlignContent → Option Float → List Bool → List Float → Float
 gutter_adjustment alignment inner known estimates =
     cond (leb (length known) 1) zero32
     (cond (eqb (inner_weight alignment) 0) zero32 (adjustment_of alignment inner known estimates))

@@ -7,7 +7,7 @@ ghost use Rattle.laws.specs.Lists.{every};
 ghost use Rattle.float_laws.specs.Sum.{sum_of};
 ghost use Rattle.float_gutters.specs.Gutters.{outer_weight, inner_weight, itself, free_of, adjustment, gutter_adjustment, GutterCount};
 
-use float_track::{OptionalSize, f32_max};
+use float_track::f32_max;
 
 // The keywords of the Rust, in its order.
 #[derive(Clone, Copy)]
@@ -29,16 +29,8 @@ impl AlignContent {
         ensures { result ≡ outer_weight self }
     {
         match self {
-            AlignContent::Normal => 0,
-            AlignContent::Start => 1,
-            AlignContent::End => 1,
-            AlignContent::FlexStart => 1,
-            AlignContent::FlexEnd => 1,
-            AlignContent::Center => 1,
-            AlignContent::Stretch => 0,
-            AlignContent::SpaceBetween => 0,
-            AlignContent::SpaceEvenly => 1,
-            AlignContent::SpaceAround => 1,
+            AlignContent::Normal | AlignContent::Stretch | AlignContent::SpaceBetween => 0,
+            _ => 1,
         }
     }
 
@@ -46,16 +38,9 @@ impl AlignContent {
         ensures { result ≡ inner_weight self }
     {
         match self {
-            AlignContent::Normal => 0,
-            AlignContent::Start => 0,
-            AlignContent::End => 0,
-            AlignContent::FlexStart => 0,
-            AlignContent::FlexEnd => 0,
-            AlignContent::Center => 0,
-            AlignContent::Stretch => 0,
-            AlignContent::SpaceBetween => 1,
-            AlignContent::SpaceEvenly => 1,
+            AlignContent::SpaceBetween | AlignContent::SpaceEvenly => 1,
             AlignContent::SpaceAround => 2,
+            _ => 0,
         }
     }
 }
@@ -63,12 +48,10 @@ impl AlignContent {
 fn all_known(known: &[bool]) -> bool
     ensures { result ≡ every itself known.now }
 {
-    let mut i = 0;
-    while i < known.len() {
-        if !known[i] {
+    for is_known in known {
+        if !*is_known {
             return false;
         }
-        i += 1;
     }
     true
 }
@@ -77,10 +60,8 @@ fn sum_of(estimates: &[f32]) -> f32
     ensures { result ≡ sum_of estimates.now }
 {
     let mut sum: f32 = -0.0;
-    let mut i = 0;
-    while i < estimates.len() {
-        sum = sum + estimates[i];
-        i += 1;
+    for estimate in estimates {
+        sum += *estimate;
     }
     sum
 }
@@ -90,9 +71,10 @@ fn free_of(size: f32, known: &[bool], estimates: &[f32]) -> f32
     ensures { result ≡ free_of size known.now estimates.now }
 {
     if all_known(known) {
-        return f32_max(0.0, size - sum_of(estimates));
+        f32_max(0.0, size - sum_of(estimates))
+    } else {
+        0.0
     }
-    0.0
 }
 
 // The free space by the weight of all gutters, times an inner gutter's.
@@ -107,7 +89,7 @@ fn adjustment_of(alignment: AlignContent, free: f32, count: usize) -> f32
 
 pub fn compute_alignment_gutter_adjustment(
     alignment: AlignContent,
-    inner: OptionalSize,
+    inner: Option<f32>,
     known: &[bool],
     estimates: &[f32],
 ) -> f32
@@ -115,16 +97,11 @@ pub fn compute_alignment_gutter_adjustment(
     ensures { result ≡ gutter_adjustment alignment inner known.now estimates.now }
 {
     let count = known.len();
-    if count <= 1 {
-        return 0.0;
-    }
-    if alignment.inner_gutter_weight() == 0 {
+    if count <= 1 || alignment.inner_gutter_weight() == 0 {
         return 0.0;
     }
     match inner {
-        OptionalSize::Given(size) => {
-            adjustment_of(alignment, free_of(size, known, estimates), count)
-        }
-        OptionalSize::Absent => 0.0,
+        Some(size) => adjustment_of(alignment, free_of(size, known, estimates), count),
+        None => 0.0,
     }
 }

@@ -9,12 +9,12 @@ use borrow.Author.Tests.{lt-ltb, le-ltb}
 use Rattle.laws.specs.Marks.{number}
 use Rattle.float_laws.specs.Numbers.{zero32}
 use Rattle.float_track.specs.declared.space.AvailableSpace.{AvailableSpace}
-use Rattle.float_track.specs.declared.space.OptionalSize.{OptionalSize}
+use Rattle.std.specs.Prelude.{Option}
 use Rattle.float_track.specs.Space.{stretch_space}
 use Rattle.float_track.specs.Track.{used_space}
 use Rattle.float_stretch.specs.Stretch.{grown_by, extra_of, stretched}
 
-module _ (minimum : OptionalSize) (space : AvailableSpace) (autos : List Bool) (rows : List (List Float)) (count : ℕ) (counted : count ≡ number autos) where
+module _ (minimum : Option Float) (space : AvailableSpace) (autos : List Bool) (rows : List (List Float)) (count : ℕ) (counted : count ≡ number autos) where
   pub stretched-none : count ≤ 0 → rows ≡ stretched minimum space autos rows
   stretched-none none = rw (sym counted, le-ltb 0 count none)
 

@@ -1,5 +1,5 @@
 -- Stretch: the Rust's float steps in the Rust's order. Assumes nothing.
-use Rattle.std.specs.Prelude.{◌≡◌, Bool, false, cond, ℕ, ◌≤◌, ltb, pos, length, Float}
+use Rattle.std.specs.Prelude.{◌≡◌, Bool, false, cond, Option, ℕ, ◌≤◌, ltb, pos, length, Float}
 use mathlib.Core.List.{List, zip_with}
 use Rattle.std.specs.Float.Ieee as Ieee
 use Rattle.std.specs.Float.{binary32}
@@ -7,7 +7,6 @@ use Rattle.laws.specs.Marks.{number}
 use Rattle.float_laws.specs.Numbers.{zero32, most_tracks}
 use Rattle.float_track.specs.declared.track.Track.{Track}
 use Rattle.float_track.specs.declared.space.AvailableSpace.{AvailableSpace}
-use Rattle.float_track.specs.declared.space.OptionalSize.{OptionalSize}
 use Rattle.float_track.specs.Space.{stretch_space}
 use Rattle.float_track.specs.Track.{track_of, row_of, with_sizes, used_space}
 
@@ -31,7 +30,7 @@ extra_of free count = Ieee.div binary32 free (Ieee.of_int binary32 (pos count))
 abbrev pub stretched_by : Float → List Bool → List (List Float) → List (List Float)
 stretched_by free autos rows = cond (Ieee.lt zero32 free) (grown_by (extra_of free (number autos)) autos rows) rows
 
-abbrev pub stretched : OptionalSize → AvailableSpace → List Bool → List (List Float) → List (List Float)
+abbrev pub stretched : Option Float → AvailableSpace → List Bool → List (List Float) → List (List Float)
 stretched minimum space autos rows =
     cond (ltb 0 (number autos)) (stretched_by (stretch_space space minimum (used_space rows)) autos rows) rows
 

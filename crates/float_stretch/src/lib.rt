@@ -2,29 +2,20 @@
 // the Rust's order).
 #![tactic(auto)]
 
-ghost use Rattle.std.specs.Prelude.{◌≡◌, ◌≤◌, ◌+◌, length};
-ghost use Rattle.laws.specs.Marks.{bit, number};
+ghost use Rattle.std.specs.Prelude.{◌≡◌, ◌≤◌, length};
+ghost use Rattle.laws.specs.Marks.{number};
 ghost use Rattle.float_laws.specs.Numbers.{most_tracks};
 ghost use Rattle.float_stretch.specs.Stretch.{StretchLengths, stretched_row, grown_by, stretched};
 
-use float_track::{AvailableSpace, OptionalSize, Track, used_space};
-
-fn one_more(auto: bool, count: usize) -> usize
-    requires { count ≤ most_tracks }
-    ensures { result ≡ bit auto + count }
-{
-    if auto { count + 1 } else { count }
-}
+use float_track::{AvailableSpace, Track, used_space};
 
 fn auto_count(autos: &[bool]) -> usize
     requires { length autos.now ≤ most_tracks }
     ensures { result ≡ number autos.now }
 {
     let mut count = 0;
-    let mut i = 0;
-    while i < autos.len() {
-        count = one_more(autos[i], count);
-        i += 1;
+    for auto in autos {
+        count += usize::from(*auto);
     }
     count
 }
@@ -44,17 +35,15 @@ fn grow_by(tracks: &mut [[f32; 5]], autos: &[bool], extra: f32)
     requires { length autos.now ≡ length tracks.old }
     ensures { tracks.new ≡ grown_by extra autos.now tracks.old }
 {
-    let mut i = 0;
-    while i < tracks.len() {
-        tracks[i] = stretched_row(autos[i], tracks[i], extra);
-        i += 1;
+    for (i, row) in tracks.iter_mut().enumerate() {
+        *row = stretched_row(autos[i], *row, extra);
     }
 }
 
 pub fn stretch_auto_tracks(
     tracks: &mut [[f32; 5]],
     autos: &[bool],
-    minimum: OptionalSize,
+    minimum: Option<f32>,
     space: AvailableSpace,
 )
     requires { StretchLengths tracks.old autos.now }

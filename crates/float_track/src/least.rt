@@ -1,4 +1,6 @@
 // The smaller and the larger of two floats. float_laws shows that for the floats of the domain these are the Rust's own.
+//
+// Not `a.min(b)`: of two that compare equal it may give either, and it passes over a NaN, but the promises name one result, min_of and max_of.
 ghost use Rattle.std.specs.Prelude.{◌≡◌};
 ghost use Rattle.float_laws.specs.Std.{min_of, max_of};
 

@@ -12,6 +12,6 @@ mod used;
 
 pub use bits::{INFINITY_BITS, SIGN_BIT};
 pub use least::{f32_max, f32_min};
-pub use space::{AvailableSpace, OptionalSize};
+pub use space::AvailableSpace;
 pub use track::Track;
 pub use used::used_space;

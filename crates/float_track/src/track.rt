@@ -2,8 +2,6 @@
 ghost use Rattle.std.specs.Prelude.{◌≡◌};
 ghost use Rattle.float_track.specs.Track.{track_of, row_of, flush_base, flush_limit};
 
-use crate::bits::INFINITY_BITS;
-
 #[derive(Clone, Copy)]
 pub struct Track {
     pub base_size: f32,
@@ -61,10 +59,10 @@ impl Track {
     {
         if self.growth_limit_planned_increase > 0.0 {
             // An infinite limit starts anew from the base size.
-            if self.growth_limit == f32::from_bits(INFINITY_BITS) {
+            if self.growth_limit == f32::INFINITY {
                 self.growth_limit = self.base_size + self.growth_limit_planned_increase;
             } else {
-                self.growth_limit = self.growth_limit + self.growth_limit_planned_increase;
+                self.growth_limit += self.growth_limit_planned_increase;
             }
             self.infinitely_growable = mark;
         } else {

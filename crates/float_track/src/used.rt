@@ -6,11 +6,8 @@ pub fn used_space(tracks: &[[f32; 5]]) -> f32
     ensures { result ≡ used_space tracks.now }
 {
     let mut used: f32 = -0.0;
-    let mut i = 0;
-    while i < tracks.len() {
-        let row = tracks[i];
-        used = used + row[0];
-        i += 1;
+    for row in tracks {
+        used += row[0];
     }
     used
 }

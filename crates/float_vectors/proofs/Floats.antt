@@ -3,7 +3,7 @@ use mathlib.Core.Path.{◌≡◌, refl, sym, ap, ◌∙◌, subst}
 use mathlib.Core.Bool.{Bool, true, false, not, true≢false}
 use Prim.Native.Nat.{ℕ, ◌<◌, ◌≤◌, ◌%◌}
 use lib.Dec.{T, ltb}
-use lib.Ieee.{Float, nan, inf, fin, binary32, is_nan, ne, div, nan_bits, of_bits}
+use lib.Ieee.{Float, nan, inf, fin, binary32, is_nan, ne, div, nan_bits, of_bits, to_bits}
 use lib.Ieee.Bits.{nan_bits_is, nan_bits_above}
 use lib.Ieee.Compare.{differs_from_itself}
 use borrow.Author.Tests.{lt-ltb, le-ltb}
@@ -32,8 +32,12 @@ no-nan-bits n h = subst (λ (b : Bool). T (not b)) (sym (nan-bits-above n ∙ le
 nan-of-ne : (x : Float) → ne x x ≡ true → x ≡ nan
 nan-of-ne x e = differs_from_itself x (subst T (sym e) tt)
 
-pub same-bits-of-ne : (x y : Float) → ne x x ≡ true → ne y y ≡ true → bits_of x ≡ bits_of y
-same-bits-of-ne x y p q = ap bits_of (nan-of-ne x p ∙ sym (nan-of-ne y q))
+nan-bits : bits_of nan ≡ 0x7fc0_0000
+unfolding to_bits
+nan-bits = refl
+
+pub bits-of-ne : (x : Float) → ne x x ≡ true → 0x7fc0_0000 ≡ bits_of x
+bits-of-ne x p = sym (ap bits_of (nan-of-ne x p) ∙ nan-bits)
 
 pub no-nan-of-ne : (x : Float) → ne x x ≡ false → T (not (is_nan x))
 unfolding ne is_nan

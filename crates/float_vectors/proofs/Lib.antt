@@ -1,3 +1,1 @@
 pub mod Floats
-pub mod Rests
-pub mod Told

@@ -1,8 +1,9 @@
 -- What a call tells and leaves, each float by its bit pattern, and what a case wants of it. Assumes nothing.
-use Rattle.std.specs.Prelude.{ℕ, Bool, true, false, List, map, Float}
+use Rattle.std.specs.Prelude.{ℕ, Bool, List, map, Float, Result, Ok, Err}
 use Rattle.std.specs.Float.{binary32}
 use Rattle.std.specs.Float.Ieee.{to_bits}
-use Rattle.cases.specs.declared.wanted.Wanted.{Wanted}
+use Rattle.cases.specs.declared.wanted.Answer.{Answer}
+use Rattle.cases.specs.declared.wanted.Refused.{Refused}
 use Rattle.float_track.specs.declared.track.Track.{Track}
 use Rattle.float_track.specs.Track.{row_of}
 use Rattle.floats.specs.Rule as Rule
@@ -43,10 +44,7 @@ left_as told tracks = record { told = told; tracks = tracks }
 abbrev pub outcome_bits : Outcome → LeftBits
 outcome_bits o = left_as (told_bits o.told) (rows_bits o.tracks)
 
-abbrev pub answer_as : Bool → ℕ → ℕ → ToldBits → ToldBits
-answer_as true n place answer = refused n place
-answer_as false n place answer = answer
-
 -- the refusal that is wanted, or the answer where none is
-abbrev pub told_as : Wanted → ToldBits → ToldBits
-told_as w answer = answer_as w.is_refusal w.first w.second answer
+abbrev pub told_as : Result Answer Refused → ToldBits → ToldBits
+told_as (Ok numbers) answer = answer
+told_as (Err refusal) answer = refused refusal.number refusal.place

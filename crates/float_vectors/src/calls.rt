@@ -6,7 +6,7 @@ ghost use Rattle.float_vectors.specs.Wanted.{bits_of, row_bits, rows_bits, numbe
 
 use crate::answers::{Told, is_flushed, is_number, is_sized};
 use crate::rows::same_rows;
-use floats::{AlignContent, AvailableSpace, OptionalSize, Track};
+use floats::{AlignContent, AvailableSpace, Track};
 
 pub fn is_base_flushed(told: Told, track: Track, after: [f32; 5]) -> bool
     ensures { result ≡ true → told_as told.wanted (flushed (row_bits after) told.mark) ≡ told_bits (flush_base_call track) }
@@ -25,7 +25,7 @@ pub fn is_limit_flushed(told: Told, track: Track, mark: bool, after: [f32; 5]) -
 pub fn is_adjusted(
     told: Told,
     alignment: AlignContent,
-    inner: OptionalSize,
+    inner: Option<f32>,
     known: &[bool],
     estimates: &[f32],
 ) -> bool
@@ -55,10 +55,7 @@ pub fn is_distributed(
         sizes,
         limits,
     );
-    if !is_number(told, answer) {
-        return false;
-    }
-    same_rows(tracks, after)
+    is_number(told, answer) && same_rows(tracks, after)
 }
 
 pub fn is_fr_size(
@@ -84,25 +81,19 @@ pub fn is_maximised(
     ensures { result ≡ true → left_as (told_as told.wanted sized) (rows_bits after.now) ≡ outcome_bits (maximise_call tracks.old fits.now space) }
 {
     let answer = floats::maximise_tracks(tracks, fits, space);
-    if !is_sized(told, answer) {
-        return false;
-    }
-    same_rows(tracks, after)
+    is_sized(told, answer) && same_rows(tracks, after)
 }
 
 pub fn is_stretched(
     told: Told,
     tracks: &mut [[f32; 5]],
     autos: &[bool],
-    minimum: OptionalSize,
+    minimum: Option<f32>,
     space: AvailableSpace,
     after: &[[f32; 5]],
 ) -> bool
     ensures { result ≡ true → left_as (told_as told.wanted sized) (rows_bits after.now) ≡ outcome_bits (stretch_call tracks.old autos.now minimum space) }
 {
     let answer = floats::stretch_auto_tracks(tracks, autos, minimum, space);
-    if !is_sized(told, answer) {
-        return false;
-    }
-    same_rows(tracks, after)
+    is_sized(told, answer) && same_rows(tracks, after)
 }

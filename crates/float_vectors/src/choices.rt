@@ -2,21 +2,17 @@
 ghost use Rattle.std.specs.Prelude.{◌≡◌};
 ghost use Rattle.float_vectors.specs.Choices.{size_as, space_as, alignment_as};
 
-use floats::{AlignContent, AvailableSpace, OptionalSize};
+use floats::{AlignContent, AvailableSpace};
 
 // The numbers run from 0 to the last.
 pub const LAST_SPACE: u32 = 2;
 
 pub const LAST_ALIGNMENT: u32 = 9;
 
-pub fn size_of(is_given: bool, size: f32) -> OptionalSize
+pub fn size_of(is_given: bool, size: f32) -> Option<f32>
     ensures { result ≡ size_as is_given size }
 {
-    if is_given {
-        OptionalSize::Given(size)
-    } else {
-        OptionalSize::Absent
-    }
+    is_given.then_some(size)
 }
 
 pub fn space_of(number: u32, space: f32) -> AvailableSpace

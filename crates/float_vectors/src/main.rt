@@ -9,22 +9,6 @@ mod choices;
 mod numbers;
 mod rows;
 
-use cases::Walk;
-
-fn check_all(text: &[u8]) {
-    let mut walk = Walk::new(text);
-    while walk.at < text.len() {
-        let checked = case::check_case(text, walk.case(text));
-        walk = walk.counted(text, checked);
-    }
-    walk.print(b"float_vectors", text);
-}
-
 fn main(rt: HostRuntime) {
-    let mut text = cases::buffer();
-    let loaded = cases::load(&rt, b"float_vectors", &mut text);
-    let length = loaded.length;
-    if loaded.is_whole {
-        check_all(&text[..length]);
-    }
+    cases::run(&rt, "float_vectors", case::check_case);
 }

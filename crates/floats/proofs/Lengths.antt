@@ -11,7 +11,7 @@ use Rattle.laws.specs.Faults.{fine, fault, first, unless, fine-both, fine-test}
 use Rattle.float_domain.specs.declared.kind.Kind.TheVariants.{Size}
 use Rattle.float_domain.specs.Domain.{lengths_fit, lengths_fault, numbers_of, outside_from}
 use Rattle.float_domain.proofs.Outside.{lengths-fit-head, lengths-fit-le}
-use Rattle.float_track.specs.declared.space.OptionalSize.{OptionalSize}
+use Rattle.std.specs.Prelude.{Option}
 use Rattle.float_distribution.specs.Distribution.{OneLength}
 use Rattle.float_fr_size.specs.Fr.{FrLengths}
 use Rattle.float_gutters.specs.Gutters.{GutterCount}
@@ -48,7 +48,7 @@ counted (suc zero) h = inl (omega arith)
 counted (suc (suc zero)) h = absurd (true≢false (sym h))
 counted (suc (suc (suc n))) h = inr (omega arith)
 
-pub gutter-count : (inner : OptionalSize) (known : List Bool) (estimates : List Float) → gutter_fault inner known estimates ≡ fine → GutterCount (length known)
+pub gutter-count : (inner : Option Float) (known : List Bool) (estimates : List Float) → gutter_fault inner known estimates ≡ fine → GutterCount (length known)
 gutter-count inner known estimates h =
     let rest = outside_from 0 (size_number inner ∷ numbers_of Size estimates) in
     let count = unless (is_gutter_count (length known)) (fault 14 0) in

@@ -18,8 +18,7 @@ use Rattle.float_domain.proofs.Outside.{IsAccepted, accepted-of-fine, lengths-fi
 use Rattle.float_track.specs.declared.track.Track.{Track}
 use Rattle.float_track.specs.declared.space.AvailableSpace.{AvailableSpace}
 use Rattle.float_track.specs.declared.space.AvailableSpace.TheVariants.{Definite, MinContent, MaxContent}
-use Rattle.float_track.specs.declared.space.OptionalSize.{OptionalSize}
-use Rattle.float_track.specs.declared.space.OptionalSize.TheVariants.{Given, Absent}
+use Rattle.std.specs.Prelude.{Option, Some, None}
 use Rattle.float_track.specs.Track.{row_of}
 use Rattle.float_gutters.specs.declared.AlignContent.{AlignContent}
 use Rattle.float_gutters.specs.Gutters.{gutter_adjustment}
@@ -68,9 +67,9 @@ tracks-inputs (row ∷ rows) f a = (
   tracks-inputs rows f.1 (all-append-right IsAccepted (track_numbers row) (tracks_numbers rows) a),
 )
 
-size-input : (size : OptionalSize) → SizeF32 size → IsAccepted (size_number size) → SizeInput size
-size-input (Given x) f a = (f, a)
-size-input Absent f a = tt
+size-input : (size : Option Float) → SizeF32 size → IsAccepted (size_number size) → SizeInput size
+size-input (Some x) f a = (f, a)
+size-input None f a = tt
 
 space-input : (space : AvailableSpace) → SpaceF32 space → IsAccepted (space_number space) → SpaceInput space
 space-input (Definite x) f a = (f, a)
@@ -94,7 +93,7 @@ both_of ms ns a = (all-append-left IsAccepted ms ns a, all-append-right IsAccept
 pub flush-inputs : (t : Track) → All IsF32 (row_of t) → flush_fault t ≡ fine → TrackInputs (row_of t)
 flush-inputs t f h = track-inputs (row_of t) f (accepted-of-fine 0 (track_numbers (row_of t)) h)
 
-pub gutter-inputs : (inner : OptionalSize) (known : List Bool) (estimates : List Float) → SizeF32 inner → All IsF32 estimates
+pub gutter-inputs : (inner : Option Float) (known : List Bool) (estimates : List Float) → SizeF32 inner → All IsF32 estimates
     → gutter_fault inner known estimates ≡ fine → GutterInputs inner known estimates
 gutter-inputs inner known estimates f fs h =
     let numbers = outside_from 0 (size_number inner ∷ numbers_of Size estimates) in
@@ -159,7 +158,7 @@ maximise-inputs rows limits space frows flimits h =
       fit-content = numbers-inputs Limit limits flimits both.1;
     }
 
-pub stretch-inputs : (rows : List (List Float)) (autos : List Bool) (minimum : OptionalSize) (space : AvailableSpace) → All (All IsF32) rows → SizeF32 minimum → SpaceF32 space
+pub stretch-inputs : (rows : List (List Float)) (autos : List Bool) (minimum : Option Float) (space : AvailableSpace) → All (All IsF32) rows → SizeF32 minimum → SpaceF32 space
     → stretch_fault rows autos minimum space ≡ fine → StretchInputs rows autos minimum space
 stretch-inputs rows autos minimum space frows fminimum fspace h =
     let behind = space_number space ∷ tracks_numbers rows in
@@ -185,7 +184,7 @@ outcome-agrees fine rows a b h = h refl
 outcome-agrees (fault n place) rows a b h = refl
 
 module _ (rust_max : Float → Float → Float) (keeps : IsRustMax rust_max) where
-  pub gutter-call-agrees : (alignment : AlignContent) (inner : OptionalSize) (known : List Bool) (estimates : List Float)
+  pub gutter-call-agrees : (alignment : AlignContent) (inner : Option Float) (known : List Bool) (estimates : List Float)
       → (gutter_fault inner known estimates ≡ fine → GutterInputs inner known estimates)
       → gutter_call alignment inner known estimates ≡ rust_gutter_call rust_max alignment inner known estimates
   gutter-call-agrees alignment inner known estimates inputs =

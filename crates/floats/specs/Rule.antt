@@ -1,14 +1,12 @@
 -- The float routines as calls: 12, then 14, then 13, and where nothing is refused the Rust's own steps, which the specs of
 -- float_track, float_gutters, float_distribution, float_fr_size, float_maximise and float_stretch name. Assumes nothing.
-use Rattle.std.specs.Prelude.{Bool, not, ◌&&◌, ◌||◌, List, [], ◌∷◌, ◌++◌, ℕ, ◌+◌, ◌%◌, eqb, length, Float}
+use Rattle.std.specs.Prelude.{Bool, Option, Some, None, not, ◌&&◌, ◌||◌, List, [], ◌∷◌, ◌++◌, ℕ, ◌+◌, ◌%◌, eqb, length, Float}
 use Rattle.laws.specs.Faults.{Fault, fine, fault, first, unless}
 use Rattle.float_domain.specs.declared.kind.Kind.TheVariants.{Size, Limit, Factor, Proportion}
 use Rattle.float_domain.specs.Domain.{Number, absent, given, numbers_of, track_numbers, tracks_numbers, lengths_fault, outside_from}
 use Rattle.float_track.specs.declared.track.Track.{Track}
 use Rattle.float_track.specs.declared.space.AvailableSpace.{AvailableSpace}
 use Rattle.float_track.specs.declared.space.AvailableSpace.TheVariants.{Definite, MinContent, MaxContent}
-use Rattle.float_track.specs.declared.space.OptionalSize.{OptionalSize}
-use Rattle.float_track.specs.declared.space.OptionalSize.TheVariants.{Given, Absent}
 use Rattle.float_track.specs.Track.{row_of, flush_base, flush_limit}
 use Rattle.float_gutters.specs.declared.AlignContent.{AlignContent}
 use Rattle.float_gutters.specs.Gutters.{gutter_adjustment}
@@ -42,9 +40,9 @@ outcome_or fine before after = after
 outcome_or (fault n place) before after = outcome (refused n place) before
 
 -- A number that may be absent keeps its place in the count.
-abbrev pub size_number : OptionalSize → Number
-size_number (Given x) = given Size x
-size_number Absent = absent
+abbrev pub size_number : Option Float → Number
+size_number (Some x) = given Size x
+size_number None = absent
 
 abbrev pub space_number : AvailableSpace → Number
 space_number (Definite x) = given Size x
@@ -68,13 +66,13 @@ flush_limit_call t mark = told_or (flush_fault t) (flushed (flush_limit t mark))
 abbrev pub is_gutter_count : ℕ → Bool
 is_gutter_count count = not (eqb count 3) && (eqb count 0 || eqb (count % 2) 1)
 
-abbrev pub gutter_fault : OptionalSize → List Bool → List Float → Fault
+abbrev pub gutter_fault : Option Float → List Bool → List Float → Fault
 gutter_fault inner known estimates =
     first (lengths_fault (length known) (length estimates ∷ []))
     (first (unless (is_gutter_count (length known)) (fault 14 0))
     (outside_from 0 (size_number inner ∷ numbers_of Size estimates)))
 
-abbrev pub gutter_call : AlignContent → OptionalSize → List Bool → List Float → Told
+abbrev pub gutter_call : AlignContent → Option Float → List Bool → List Float → Told
 gutter_call alignment inner known estimates =
     told_or (gutter_fault inner known estimates) (number (gutter_adjustment alignment inner known estimates))
 
@@ -122,11 +120,11 @@ maximise_call rows fits space = outcome_or (maximise_fault rows fits space) rows
 
 -- ---- 6. Stretch
 
-abbrev pub stretch_fault : List (List Float) → List Bool → OptionalSize → AvailableSpace → Fault
+abbrev pub stretch_fault : List (List Float) → List Bool → Option Float → AvailableSpace → Fault
 stretch_fault rows autos minimum space =
     first (lengths_fault (length rows) (length autos ∷ []))
     (outside_from 0 (size_number minimum ∷ space_number space ∷ tracks_numbers rows))
 
-abbrev pub stretch_call : List (List Float) → List Bool → OptionalSize → AvailableSpace → Outcome
+abbrev pub stretch_call : List (List Float) → List Bool → Option Float → AvailableSpace → Outcome
 stretch_call rows autos minimum space =
     outcome_or (stretch_fault rows autos minimum space) rows (outcome sized (stretched minimum space autos rows))

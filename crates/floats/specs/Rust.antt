@@ -1,16 +1,15 @@
 -- The calls of the rule with Rust's own minimum and maximum: what is refused is the same, and where nothing is, the routine is the one that
 -- float_agreement's specs name, with `f32::min`, `f32::max` and `min_by(total_cmp)` where the Rust has them. The flushes and stretch take none of these.
 -- Assumes nothing.
-use Rattle.std.specs.Prelude.{Bool, List, ◌+◌, length, Float}
+use Rattle.std.specs.Prelude.{Bool, Option, List, ◌+◌, length, Float}
 use Rattle.float_track.specs.declared.space.AvailableSpace.{AvailableSpace}
-use Rattle.float_track.specs.declared.space.OptionalSize.{OptionalSize}
 use Rattle.float_gutters.specs.declared.AlignContent.{AlignContent}
 use Rattle.float_distribution.specs.Distribution.{lists, left}
 use Rattle.float_agreement.specs.Rust.{rust_gutter_adjustment, rust_passes, rust_fr_size, rust_maximised}
 use Rattle.floats.specs.Rule.{Told, number, sized, told_or, Outcome, outcome, outcome_or, left_outcome, gutter_fault, distribution_fault, fr_fault, maximise_fault}
 
 module _ (rust_max : Float → Float → Float) where
-  abbrev pub rust_gutter_call : AlignContent → OptionalSize → List Bool → List Float → Told
+  abbrev pub rust_gutter_call : AlignContent → Option Float → List Bool → List Float → Told
   rust_gutter_call alignment inner known estimates =
       told_or (gutter_fault inner known estimates) (number (rust_gutter_adjustment rust_max alignment inner known estimates))
 

@@ -6,29 +6,22 @@ ghost use Rattle.float_agreement.specs.Inputs.{TrackInputs};
 ghost use Rattle.floats.specs.Rule.{flush_fault, flush_base_call, flush_limit_call};
 ghost use Rattle.floats.specs.Answer.{flush_told};
 
-use crate::answer::FlushAnswer;
-use float_domain::{Fault, track_fault};
+use float_domain::{Refusal, track_fault};
 use float_track::Track;
 
-pub fn flush_planned_base_size_increases(track: Track) -> FlushAnswer
-    ensures result_value { flush_told result ≡ flush_base_call track }
+pub fn flush_planned_base_size_increases(track: Track) -> Result<Track, Refusal>
+    ensures as_rule { flush_told result ≡ flush_base_call track }
     ensures track_inputs { flush_fault track ≡ fine → TrackInputs (row_of track) }
 {
-    let fault = track_fault(0, track.row());
-    match fault {
-        Fault::Found(refusal) => FlushAnswer::Refused(refusal),
-        Fault::Fine => FlushAnswer::Flushed(track.flush_planned_base_size_increases()),
-    }
+    track_fault(0, track.row())?;
+    Ok(track.flush_planned_base_size_increases())
 }
 
 // The mark is the one that a limit with an increase gets; any other limit's mark is cleared.
-pub fn flush_planned_growth_limit_increases(track: Track, mark: bool) -> FlushAnswer
-    ensures result_value { flush_told result ≡ flush_limit_call track mark }
+pub fn flush_planned_growth_limit_increases(track: Track, mark: bool) -> Result<Track, Refusal>
+    ensures as_rule { flush_told result ≡ flush_limit_call track mark }
     ensures track_inputs { flush_fault track ≡ fine → TrackInputs (row_of track) }
 {
-    let fault = track_fault(0, track.row());
-    match fault {
-        Fault::Found(refusal) => FlushAnswer::Refused(refusal),
-        Fault::Fine => FlushAnswer::Flushed(track.flush_planned_growth_limit_increases(mark)),
-    }
+    track_fault(0, track.row())?;
+    Ok(track.flush_planned_growth_limit_increases(mark))
 }

@@ -3,87 +3,68 @@
 
 mod reasons;
 
-ghost use Rattle.std.specs.Prelude.{◌≡◌, IsSome, IsTrue, ◌↔◌};
+ghost use Rattle.std.specs.Prelude.{◌≡◌, IfErr};
 ghost use Rattle.io.specs.Counts.{IsPrefixLen};
+ghost use Rattle.input.specs.declared.End.{End};
 
 pub use reasons::reason;
 use std::io;
 
-// How reading went, and how many bytes were read.
+// How reading ended.
+#[derive(Clone, Copy)]
+pub enum End {
+    // The input ended, or the lent bytes did.
+    Whole,
+    // The input went on behind its end.
+    GoneOn,
+    // A read failed, and why.
+    Failed(io::Error),
+}
+
+// How many bytes were read, and how reading ended.
 #[derive(Clone, Copy)]
 pub struct Read {
-    // The input ended, or the lent bytes did.
-    pub is_whole: bool,
-    pub has_failed: bool,
     pub length: usize,
-    // Why reading failed, where it did.
-    pub error: Option<io::Error>,
+    pub end: End,
 }
 
-impl Read {
-    fn whole(length: usize) -> Read
-        ensures value { result.length ≡ length }
-        ensures error { IsTrue result.has_failed ↔ IsSome result.error }
-    {
-        Read {
-            is_whole: true,
-            has_failed: false,
-            length,
-            error: None,
-        }
-    }
-
-    fn failed(length: usize, error: io::Error) -> Read
-        ensures value { result.length ≡ length }
-        ensures error { IsTrue result.has_failed ↔ IsSome result.error }
-    {
-        Read {
-            is_whole: false,
-            has_failed: true,
-            length,
-            error: Some(error),
-        }
-    }
-
-    fn gone_on(length: usize) -> Read
-        ensures value { result.length ≡ length }
-        ensures error { IsTrue result.has_failed ↔ IsSome result.error }
-    {
-        Read {
-            is_whole: false,
-            has_failed: false,
-            length,
-            error: None,
-        }
-    }
-}
-
-// Reads until there are no more bytes, or no more that were lent. A read that fails is not tried again.
+// Reads until there are no more bytes, or no more that were lent. A read that fails is not tried again. A turn of the loop reads as
+// many bytes as the system gives, so that no `for` counts them.
 pub fn read_from<R: io::Read>(from: &mut R, into: &mut [u8]) -> Read
-    ensures in_bounds { IsPrefixLen result.length into.new }
-    ensures error { IsTrue result.has_failed ↔ IsSome result.error }
+    ensures { IsPrefixLen result.length into.new }
 {
     let mut length = 0;
     while length < into.len() {
         match from.read(&mut into[length..]) {
-            Ok(0) => return read_past_end(from, length),
+            Ok(0) => {
+                let end = end_behind(from);
+                return Read { length, end };
+            }
             Ok(n) => length += n,
-            Err(e) => return Read::failed(length, e),
+            Err(e) => {
+                let end = end_told(Err(e));
+                return Read { length, end };
+            }
         }
     }
-    Read::whole(length)
+    let end = End::Whole;
+    Read { length, end }
 }
 
 // A terminal goes on behind its end, and what was read of it is not all: one more byte is asked for.
-fn read_past_end<R: io::Read>(from: &mut R, length: usize) -> Read
-    ensures value { result.length ≡ length }
-    ensures error { IsTrue result.has_failed ↔ IsSome result.error }
-{
+fn end_behind<R: io::Read>(from: &mut R) -> End {
     let mut one_more = [0u8; 1];
-    match from.read(&mut one_more) {
-        Ok(0) => Read::whole(length),
-        Ok(_) => Read::gone_on(length),
-        Err(e) => Read::failed(length, e),
+    end_told(from.read(&mut one_more))
+}
+
+// What the last read tells: a failure and its reason, or whether there was a byte more.
+fn end_told(last: io::Result<usize>) -> End
+    ensures { IfErr last (λ e. result ≡ End.Failed e) }
+{
+    match last {
+        Ok(0) => End::Whole,
+        Ok(_) => End::GoneOn,
+        Err(e) => End::Failed(e),
     }
 }
 
@@ -103,9 +84,9 @@ mod tests {
     fn reads_to_the_end_or_until_the_room_is_full(rt: HostRuntime) {
         let mut into = [0u8; 4];
         let read = read_from(&mut (b"abc" as &[u8]), &mut into);
-        assert!(rt; read.is_whole && read.length == 3);
+        assert!(rt; matches!(read.end, End::Whole) && read.length == 3);
         assert!(rt; into[0] == b'a' && into[2] == b'c');
         let full = read_from(&mut (b"abcdef" as &[u8]), &mut into);
-        assert!(rt; full.is_whole && full.length == 4);
+        assert!(rt; matches!(full.end, End::Whole) && full.length == 4);
     }
 }

@@ -1,7 +1,5 @@
 -- The kinds that the sizing reads, and the rows that say them. A tag tells absent from given; no number does. Assumes nothing.
-use Rattle.std.specs.Prelude.{ℕ, ◌+◌, ◌*◌, ◌/◌, ◌%◌, Bool, false, cond, ◌||◌, List, [], ◌∷◌, ltb, eqb, get_or}
-use Rattle.kinds.specs.declared.amount.Amount.{Amount}
-use Rattle.kinds.specs.declared.amount.Amount.TheVariants.{Absent, Given}
+use Rattle.std.specs.Prelude.{ℕ, ◌+◌, ◌*◌, ◌/◌, ◌%◌, Bool, false, cond, ◌||◌, List, [], ◌∷◌, Option, Some, None, ltb, eqb, get_or}
 use Rattle.kinds.specs.declared.constraint.Constraint.{Constraint}
 use Rattle.kinds.specs.declared.constraint.Constraint.TheVariants as constraint
 use Rattle.kinds.specs.declared.track.Minimum.{Minimum}
@@ -11,7 +9,6 @@ use Rattle.kinds.specs.declared.track.Maximum.TheVariants as maximum
 use Rattle.kinds.specs.declared.track.Track.{Track}
 use Rattle.kinds.specs.declared.item.ContributionKind.{ContributionKind}
 use Rattle.kinds.specs.declared.item.ContributionKind.TheVariants as kind
-use Rattle.kinds.specs.declared.item.Contribution.{Contribution}
 use Rattle.kinds.specs.declared.item.Item.{Item}
 
 -- a row: the numbers of a record, in order
@@ -20,22 +17,25 @@ Row = List ℕ
 
 -- ---- A number that may be missing
 
+abbrev pub Amount : Type 0
+Amount = Option ℕ
+
 abbrev pub amount_tag : Amount → ℕ
-amount_tag Absent = 0
-amount_tag (Given n) = 1
+amount_tag None = 0
+amount_tag (Some n) = 1
 
 abbrev pub amount_number : Amount → ℕ
-amount_number Absent = 0
-amount_number (Given n) = n
+amount_number None = 0
+amount_number (Some n) = n
 
 abbrev pub amount_of : ℕ → ℕ → Amount
-amount_of tag n = cond (eqb tag 1) (Given n) Absent
+amount_of tag n = cond (eqb tag 1) (Some n) None
 
 -- both are given, and the later is below the earlier
 abbrev pub above : Amount → Amount → Bool
-above (Given x) (Given y) = ltb y x
-above (Given x) Absent = false
-above Absent later = false
+above (Some x) (Some y) = ltb y x
+above (Some x) None = false
+above None later = false
 
 -- ---- What the space asks of the board
 
@@ -104,11 +104,8 @@ track_of row = track (minimum_of (get_or row 0 0) (get_or row 1 0)) (maximum_of 
 
 -- ---- An item: its start and span are the halves of its row's first number
 
-abbrev pub item : ℕ → ℕ → List Contribution → Item
+abbrev pub item : ℕ → ℕ → List Amount → Item
 item start span row = record { start = start; span = span; row = row }
-
-abbrev pub contribution : Amount → Contribution
-contribution amount = record { amount = amount }
 
 abbrev pub kind_index : ContributionKind → ℕ
 kind_index kind.Minimum = 0
@@ -116,7 +113,7 @@ kind_index kind.MinContent = 1
 kind_index kind.MaxContent = 2
 
 abbrev pub amount_at : Item → ContributionKind → Amount
-amount_at i k = (get_or i.row (kind_index k) (contribution Absent)).amount
+amount_at i k = get_or i.row (kind_index k) None
 
 abbrev pub item_row : Item → Row
 item_row i =
@@ -128,7 +125,7 @@ item_row i =
 abbrev pub item_of : Row → Item
 item_of row =
     item (get_or row 0 0 % 65536) (get_or row 0 0 / 65536)
-    (contribution (amount_of (get_or row 1 0) (get_or row 2 0)) ∷ contribution (amount_of (get_or row 3 0) (get_or row 4 0)) ∷ contribution (amount_of (get_or row 5 0) (get_or row 6 0)) ∷ [])
+    (amount_of (get_or row 1 0) (get_or row 2 0) ∷ amount_of (get_or row 3 0) (get_or row 4 0) ∷ amount_of (get_or row 5 0) (get_or row 6 0) ∷ [])
 
 -- a given contribution is below an earlier given one
 abbrev pub falls : Item → Bool

@@ -1,57 +1,40 @@
-// A number that may be missing: absent is a case, and no number.
+// A number that may be missing: absent and zero are never the same answer, so it is an Option. Here are the tag and the number that say it.
 ghost use Rattle.std.specs.Prelude.{◌≡◌};
 ghost use Rattle.kinds.specs.Kinds.{amount_of, amount_tag, amount_number, above};
 
-#[derive(Clone, Copy)]
-pub enum Amount {
-    Absent,
-    Given(u32),
+// The tags of a sheet.
+pub const ABSENT: u32 = 0;
+
+pub const GIVEN: u32 = 1;
+
+pub fn of(tag: u32, n: u32) -> Option<u32>
+    ensures { result ≡ amount_of tag n }
+{
+    match tag {
+        GIVEN => Some(n),
+        _ => None,
+    }
 }
 
-impl Amount {
-    // The tags of a sheet.
-    pub const ABSENT: u32 = 0;
-
-    pub const GIVEN: u32 = 1;
-
-    pub fn of(tag: u32, n: u32) -> Amount
-        ensures { result ≡ amount_of tag n }
-    {
-        if tag == Amount::GIVEN {
-            return Amount::Given(n);
-        }
-        Amount::Absent
+pub fn tag(amount: Option<u32>) -> u32
+    ensures { result ≡ amount_tag amount }
+{
+    match amount {
+        None => ABSENT,
+        Some(_) => GIVEN,
     }
+}
 
-    pub fn tag(self) -> u32
-        ensures { result ≡ amount_tag self }
-    {
-        match self {
-            Amount::Absent => Amount::ABSENT,
-            Amount::Given(_) => Amount::GIVEN,
-        }
-    }
+// What stands in a sheet beside the tag: 0 where the number is absent.
+pub fn number(amount: Option<u32>) -> u32
+    ensures { result ≡ amount_number amount }
+{
+    amount.unwrap_or(0)
+}
 
-    // What stands in a sheet beside the tag: 0 where the number is absent.
-    pub fn number(self) -> u32
-        ensures { result ≡ amount_number self }
-    {
-        match self {
-            Amount::Absent => 0,
-            Amount::Given(n) => n,
-        }
-    }
-
-    // Both are given, and the later is below this one.
-    pub(crate) fn is_above(self, later: Amount) -> bool
-        ensures { result ≡ above self later }
-    {
-        match self {
-            Amount::Absent => false,
-            Amount::Given(x) => match later {
-                Amount::Absent => false,
-                Amount::Given(y) => y < x,
-            },
-        }
-    }
+// Both are given, and the later is below the earlier.
+pub(crate) fn is_above(earlier: Option<u32>, later: Option<u32>) -> bool
+    ensures { result ≡ above earlier later }
+{
+    matches!((earlier, later), (Some(x), Some(y)) if y < x)
 }

@@ -22,13 +22,11 @@ impl Constraint {
     pub fn of(tag: u32, n: u32) -> Constraint
         ensures { result ≡ constraint_of tag n }
     {
-        if tag == Constraint::DEFINITE {
-            return Constraint::Definite(n);
+        match tag {
+            Self::DEFINITE => Self::Definite(n),
+            Self::MIN_CONTENT => Self::MinContent,
+            _ => Self::MaxContent,
         }
-        if tag == Constraint::MIN_CONTENT {
-            return Constraint::MinContent;
-        }
-        Constraint::MaxContent
     }
 
     pub fn tag(self) -> u32
@@ -46,8 +44,7 @@ impl Constraint {
     {
         match self {
             Constraint::Definite(n) => n,
-            Constraint::MinContent => 0,
-            Constraint::MaxContent => 0,
+            Constraint::MinContent | Constraint::MaxContent => 0,
         }
     }
 }

@@ -1,8 +1,8 @@
 // An item: where it starts, what it spans, and its three contributions in one row.
 ghost use Rattle.std.specs.Prelude.{◌≡◌, ◌<◌};
-ghost use Rattle.kinds.specs.Kinds.{amount_of, contribution, kind_index, item_of, amount_at, falls};
+ghost use Rattle.kinds.specs.Kinds.{kind_index, item_of, amount_at, falls};
 
-use crate::amount::Amount;
+use crate::amount::{self, is_above};
 
 // The kinds of contribution, in the order of an item's row.
 #[derive(Clone, Copy)]
@@ -17,25 +17,7 @@ impl ContributionKind {
     pub fn index(self) -> usize
         ensures { (result ≡ kind_index self) × (result < 3) }
     {
-        match self {
-            ContributionKind::Minimum => 0,
-            ContributionKind::MinContent => 1,
-            ContributionKind::MaxContent => 2,
-        }
-    }
-}
-
-#[derive(Clone, Copy)]
-pub struct Contribution {
-    pub amount: Amount,
-}
-
-impl Contribution {
-    fn of(tag: u32, n: u32) -> Contribution
-        ensures { result ≡ contribution (amount_of tag n) }
-    {
-        let amount = Amount::of(tag, n);
-        Contribution { amount }
+        self as usize
     }
 }
 
@@ -43,7 +25,7 @@ impl Contribution {
 pub struct Item {
     pub start: u16,
     pub span: u16,
-    pub row: [Contribution; 3],
+    pub row: [Option<u32>; 3],
 }
 
 impl Item {
@@ -60,21 +42,18 @@ impl Item {
         let start = (row[0] % 65536) as u16;
         let span = (row[0] / 65536) as u16;
         let row = [
-            Contribution::of(row[1], row[2]),
-            Contribution::of(row[3], row[4]),
-            Contribution::of(row[5], row[6]),
+            amount::of(row[1], row[2]),
+            amount::of(row[3], row[4]),
+            amount::of(row[5], row[6]),
         ];
         Item { start, span, row }
     }
 
     // The contribution of a kind.
-    pub fn amount(self, kind: ContributionKind) -> Amount
+    pub fn amount(self, kind: ContributionKind) -> Option<u32>
         ensures { result ≡ amount_at self kind }
     {
-        let row = self.row;
-        let i = kind.index();
-        let contribution = row[i];
-        contribution.amount
+        self.row[kind.index()]
     }
 
     // A contribution that is given is below an earlier one that is given.
@@ -84,12 +63,8 @@ impl Item {
         let minimum = self.amount(ContributionKind::Minimum);
         let min_content = self.amount(ContributionKind::MinContent);
         let max_content = self.amount(ContributionKind::MaxContent);
-        if minimum.is_above(min_content) {
-            return true;
-        }
-        if min_content.is_above(max_content) {
-            return true;
-        }
-        minimum.is_above(max_content)
+        is_above(minimum, min_content)
+            || is_above(min_content, max_content)
+            || is_above(minimum, max_content)
     }
 }

@@ -33,16 +33,12 @@ impl Minimum {
     fn of(tag: u32, n: u32) -> Minimum
         ensures { result ≡ minimum_of tag n }
     {
-        if tag == Minimum::FIXED {
-            return Minimum::Fixed(n);
+        match tag {
+            Self::FIXED => Self::Fixed(n),
+            Self::AUTO => Self::Auto,
+            Self::MIN_CONTENT => Self::MinContent,
+            _ => Self::MaxContent,
         }
-        if tag == Minimum::AUTO {
-            return Minimum::Auto;
-        }
-        if tag == Minimum::MIN_CONTENT {
-            return Minimum::MinContent;
-        }
-        Minimum::MaxContent
     }
 }
 
@@ -63,22 +59,14 @@ impl Maximum {
     fn of(tag: u32, n: u32) -> Maximum
         ensures { result ≡ maximum_of tag n }
     {
-        if tag == Maximum::FIXED {
-            return Maximum::Fixed(n);
+        match tag {
+            Self::FIXED => Self::Fixed(n),
+            Self::AUTO => Self::Auto,
+            Self::MIN_CONTENT => Self::MinContent,
+            Self::MAX_CONTENT => Self::MaxContent,
+            Self::FIT_CONTENT => Self::FitContent(n),
+            _ => Self::Fr(n),
         }
-        if tag == Maximum::AUTO {
-            return Maximum::Auto;
-        }
-        if tag == Maximum::MIN_CONTENT {
-            return Maximum::MinContent;
-        }
-        if tag == Maximum::MAX_CONTENT {
-            return Maximum::MaxContent;
-        }
-        if tag == Maximum::FIT_CONTENT {
-            return Maximum::FitContent(n);
-        }
-        Maximum::Fr(n)
     }
 }
 

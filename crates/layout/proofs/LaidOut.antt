@@ -25,7 +25,8 @@ use Rattle.sizing.specs.declared.Sized.{Sized}
 use Rattle.layout.specs.Rule.{BoardOutcome, layout_sizes, sized_outcome, layout_call}
 use Rattle.layout.specs.Answer.{layout_leaves}
 use Rattle.layout.specs.declared.refusal.Refusal.TheVariants.{LentTooShort, Record}
-use Rattle.layout.specs.declared.LayoutAnswer.TheVariants as answer
+use Rattle.layout.specs.declared.Board as told
+use Rattle.std.specs.Prelude.{Ok, Err}
 use Rattle.layout.proofs.Expansion.{expansion-fits}
 
 module _ (space : Space) (tracks items sizes : List Row) where
@@ -33,13 +34,13 @@ module _ (space : Space) (tracks items sizes : List Row) where
   abbrev pub laid_out : BoardOutcome
   laid_out = layout_call space (map sheet_track_of tracks) (map item_of items) sizes
 
-  pub too-few-lent : length sizes < length tracks → layout_leaves (answer.Refused LentTooShort) sizes ≡ laid_out
+  pub too-few-lent : length sizes < length tracks → layout_leaves (Err LentTooShort) sizes ≡ laid_out
   unfolding layout_call
   too-few-lent h = rw (length-map tracks sheet_track_of, lt-leb (length tracks) (length sizes) h)
 
   module _ (h : length tracks ≤ length sizes) where
     pub record-refused : (refusal : check.Refusal) → checks.refusal_fault refusal ≡ record_fault space (map sheet_track_of tracks) (map item_of items)
-        → layout_leaves (answer.Refused (Record refusal)) sizes ≡ laid_out
+        → layout_leaves (Err (Record refusal)) sizes ≡ laid_out
     unfolding layout_call
     record-refused refusal e = rw (length-map tracks sheet_track_of, le-leb (length tracks) (length sizes) h, ← e)
 
@@ -48,13 +49,17 @@ module _ (space : Space) (tracks items sizes : List Row) where
       sizes-of-rows : size_rows space.constraint (expansion space) space.stretch tracks items ≡ layout_sizes space (map sheet_track_of tracks) (map item_of items)
       sizes-of-rows = ap (λ (ts : List Track). size space.constraint (expansion space) space.stretch ts (map item_of items)) (sym (rows-resolved tracks))
 
+      -- what is told of so many tracks
+      abbrev board_told : Sized → told.Board
+      board_told done = record { tracks = length tracks; free = done.free; rounds = done.rounds }
+
       -- the sizes `now` stand where the first lent ones were
       pub sized : (done : Sized) (expansion' : Constraint) (now : List Row) → expansion' ≡ expansion space → length now ≡ length tracks
           → board_of done now ≡ size_rows space.constraint expansion' space.stretch tracks items
-          → layout_leaves (answer.Board (length tracks) done.free done.rounds) (now ++ drop (length tracks) sizes) ≡ laid_out
+          → layout_leaves (Ok (board_told done)) (now ++ drop (length tracks) sizes) ≡ laid_out
       unfolding layout_call
       sized done expansion' now x l b =
-          let told : layout_leaves (answer.Board (length tracks) done.free done.rounds) (now ++ drop (length tracks) sizes) ≡ sized_outcome (board_of done now) sizes = rw (← l) in
+          let told : layout_leaves (Ok (board_told done)) (now ++ drop (length tracks) sizes) ≡ sized_outcome (board_of done now) sizes = rw (← l) in
           let same = b ∙ ap (λ (k : Constraint). size_rows space.constraint k space.stretch tracks items) x ∙ sizes-of-rows in
           rw (length-map tracks sheet_track_of, le-leb (length tracks) (length sizes) h, e) (told ∙ ap (λ (board : Board). sized_outcome board sizes) same)
 

@@ -12,20 +12,18 @@ ghost use Rattle.sizing.specs.Store.{Store};
 ghost use Rattle.layout.specs.Rule.{layout_call};
 ghost use Rattle.layout.specs.Answer.{layout_leaves};
 
-use checks::{Fault, record_fault};
+use checks::record_fault;
 pub use refusal::Refusal;
 use sheet_kinds::Space;
-pub use sizing::Free;
 use sizing::size;
 
+// What a board tells beside its sizes.
 #[derive(Clone, Copy)]
-pub enum LayoutAnswer {
-    Board {
-        tracks: usize,
-        free: Free,
-        rounds: u32,
-    },
-    Refused(Refusal),
+pub struct Board {
+    pub tracks: usize,
+    // None where the expansion space is not definite.
+    pub free: Option<i32>,
+    pub rounds: u32,
 }
 
 // 6, then 7 to 10, then the sizes: base and limit of track t become `sizes[t]`; those past the tracks, and all of them after a refusal,
@@ -43,25 +41,20 @@ pub fn lay_out(
     sums: &mut [[u64; 2]],
     held: &mut [bool],
     sizes: &mut [[u32; 2]],
-) -> LayoutAnswer
+) -> Result<Board, Refusal>
     requires { (length tracks.now ≤ most_tracks)
         × Store tracks.now items.now heads.old nexts.old lines.old increases.old gains.old rests.old sums.old held.old }
     ensures { layout_leaves result sizes.new ≡ layout_call space (map sheet_track_of tracks.now) (map item_of items.now) sizes.old }
 {
     let count = tracks.len();
     if sizes.len() < count {
-        return LayoutAnswer::Refused(Refusal::LentTooShort);
+        return Err(Refusal::LentTooShort);
     }
-    let fault = record_fault(space, tracks, items);
-    if let Fault::Found(refusal) = fault {
-        return LayoutAnswer::Refused(Refusal::Record(refusal));
-    }
-    let constraint = space.constraint;
-    let expansion = space.expansion();
+    record_fault(space, tracks, items)?;
     // The rows say the tracks that the sizing reads too.
     let sized = size(
-        constraint,
-        expansion,
+        space.constraint,
+        space.expansion(),
         space.stretch,
         tracks,
         items,
@@ -75,10 +68,9 @@ pub fn lay_out(
         held,
         &mut sizes[..count],
     );
-    let free = sized.free;
-    LayoutAnswer::Board {
+    Ok(Board {
         tracks: count,
-        free,
+        free: sized.free,
         rounds: sized.rounds,
-    }
+    })
 }

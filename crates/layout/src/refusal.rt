@@ -1,6 +1,7 @@
 // What refuses a layout: too few sizes lent, or a record; with the paper's number and place of each.
 ghost use Rattle.std.specs.Prelude.{◌≡◌};
 ghost use Rattle.layout.specs.Answer.{number_of, place_of};
+ghost use Rattle.layout.specs.declared.refusal.Refusal.TheVariants.{Record};
 
 #[derive(Clone, Copy)]
 pub enum Refusal {
@@ -27,5 +28,13 @@ impl Refusal {
             Refusal::LentTooShort => 0,
             Refusal::Record(refusal) => refusal.place(),
         }
+    }
+}
+
+impl From<checks::Refusal> for Refusal {
+    ghost from_gives = { λ refusal outer. outer ≡ Record refusal };
+
+    fn from(refusal: checks::Refusal) -> Refusal {
+        Refusal::Record(refusal)
     }
 }

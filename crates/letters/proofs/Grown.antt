@@ -6,16 +6,15 @@ use Prim.Native.Nat.{ℕ, ◌+◌, ◌≤◌, ◌<◌}
 use native.Mathlib.Omega.{arith}
 use borrow.Author.Tests.{lt-ltb}
 use Rattle.rounds.specs.Rule.{Room, up_to}
-use Rattle.lines.specs.declared.limit.Limit.{Limit}
-use Rattle.lines.specs.declared.limit.Limit.TheVariants.{None, UpTo}
+use Rattle.std.specs.Prelude.{Some, None}
 use Rattle.lines.specs.declared.line.Line.{Line}
-use Rattle.lines.specs.Rule.{line, is_none, limit_size, grown_limit}
+use Rattle.lines.specs.Rule.{Limit, line, is_none, limit_size, grown_limit}
 use Rattle.letters.specs.Letters.{most}
 
 -- a limit that is growable has its room, whether it is missing or not
 pub room-of-growable : (limit : Limit) (r : Room) → r ≡ cond (is_none limit || true) r (up_to 0)
 room-of-growable None r = refl
-room-of-growable (UpTo n) r = refl
+room-of-growable (Some n) r = refl
 
 -- where some take what remains, those; else all affected
 pub rest-of-takers_only : (affected takes takers_only : Bool) → takers_only ≡ true → (affected && takes) ≡ (affected && (takes || not takers_only))
@@ -29,12 +28,12 @@ module _ (marks : Bool) (l k : Line) (increase : ℕ) (same : l ≡ k) where
   pub grown-none-zero : l.limit ≡ None → increase ≡ 0 → line k.track l.base None false ≡ grown_limit marks k increase
   grown-none-zero e z = rw (← same, e, z, and-false marks) refl
 
-  pub grown-none-more : l.limit ≡ None → (increase ≡ 0 → ⊥) → line k.track l.base (UpTo (l.base + increase)) marks ≡ grown_limit marks k increase
+  pub grown-none-more : l.limit ≡ None → (increase ≡ 0 → ⊥) → line k.track l.base (Some (l.base + increase)) marks ≡ grown_limit marks k increase
   grown-none-more e z =
       let p : 0 < increase = omega arith in
       rw (← same, e, lt-ltb 0 increase p, and-true marks) refl
 
-  pub grown-some : (n : ℕ) → l.limit ≡ UpTo n → line k.track l.base (UpTo (n + increase)) false ≡ grown_limit marks k increase
+  pub grown-some : (n : ℕ) → l.limit ≡ Some n → line k.track l.base (Some (n + increase)) false ≡ grown_limit marks k increase
   grown-some n e = rw (← same, e, and-false marks) refl
 
 -- and what it asks of the sum
@@ -42,5 +41,5 @@ module _ (l k : Line) (increase : ℕ) (same : l ≡ k) where
   pub none-fits : l.limit ≡ None → limit_size k + increase ≤ most → l.base + increase ≤ most
   none-fits e h = rw (← same, e) at h
 
-  pub some_fits : (n : ℕ) → l.limit ≡ UpTo n → limit_size k + increase ≤ most → n + increase ≤ most
+  pub some_fits : (n : ℕ) → l.limit ≡ Some n → limit_size k + increase ≤ most → n + increase ≤ most
   some_fits n e h = rw (← same, e) at h

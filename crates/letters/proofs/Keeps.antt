@@ -19,11 +19,10 @@ use Rattle.kinds.specs.Kinds.{Row}
 use Rattle.kinds.specs.declared.constraint.Constraint.{Constraint}
 use Rattle.kinds.specs.declared.item.ContributionKind.TheVariants as kind
 use Rattle.spanned.specs.Rule.{most_size, most_contribution}
-use Rattle.lines.specs.declared.limit.Limit.{Limit}
-use Rattle.lines.specs.declared.limit.Limit.TheVariants.{None, UpTo}
+use Rattle.std.specs.Prelude.{Some, None}
 use Rattle.lines.specs.declared.line.Line.{Line}
 use Rattle.lines.specs.declared.measured.Measured.{Measured}
-use Rattle.lines.specs.Rule.{contribution_at, number, or_base, limit_plus, first_track, rest_track, shares, affects_fr, shares_by_factor, extra_of, gains_by, increased_by, increases, raise, spanned}
+use Rattle.lines.specs.Rule.{Limit, contribution_at, number, or_base, limit_plus, first_track, rest_track, shares, affects_fr, shares_by_factor, extra_of, gains_by, increased_by, increases, raise, spanned}
 use Rattle.lines.specs.Rule as rule
 use Rattle.lines.specs.Rows.{limit_number, line_of, lines_of}
 use Rattle.lines.specs.Fits.{LineFits, LinesFit, MeasuredFits, MeasuredFit}
@@ -174,10 +173,10 @@ increases-fit-rows kind letter c n batch rows fl fb i h =
 limit-plus-le : (base increase k : ℕ) (limit : Limit) → or_base limit base + increase ≤ k → limit_number (limit_plus base increase limit) ≤ k
 limit-plus-le base increase k None h = go (ltb 0 increase)
   where
-    go : (b : Bool) → limit_number (cond b (UpTo (base + increase)) None) ≤ k
+    go : (b : Bool) → limit_number (cond b (Some (base + increase)) None) ≤ k
     go true = h
     go false = zero-le
-limit-plus-le base increase k (UpTo n) h = h
+limit-plus-le base increase k (Some n) h = h
 
 grown-fits : (letter : Letter) (l : Line) (increase : ℕ) → LineFits l → (letter_of letter).present l + increase ≤ most_size → LineFits ((letter_of letter).grown l increase)
 grown-fits A l increase f h = record { track = f.track; base = h; limit = f.limit }

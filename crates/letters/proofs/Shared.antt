@@ -21,10 +21,9 @@ use Rattle.kinds.specs.declared.track.Maximum.{Maximum}
 use Rattle.kinds.specs.declared.track.Maximum.TheVariants as maximum
 use Rattle.spanned.specs.Rule.{most_size}
 use Rattle.spanned.specs.Sound.{most_of}
-use Rattle.lines.specs.declared.limit.Limit.{Limit}
-use Rattle.lines.specs.declared.limit.Limit.TheVariants.{None, UpTo}
+use Rattle.std.specs.Prelude.{Some, None}
 use Rattle.lines.specs.declared.line.Line.{Line}
-use Rattle.lines.specs.Rule.{argument_of, argument, room_to, limit_size, first_track, more_gains, shares}
+use Rattle.lines.specs.Rule.{Limit, argument_of, argument, room_to, limit_size, first_track, more_gains, shares}
 use Rattle.lines.specs.Rule as rule
 use Rattle.lines.specs.Rows.{limit_number, line_of, lines_of}
 use Rattle.lines.specs.Fits.{LineFits}
@@ -188,7 +187,7 @@ argument-le (maximum.Fr n) h = zero-le
 
 room-le : (dots size : ℕ) (limit : Limit) → dots ≤ most_dots → limit_number limit ≤ most_size → cap_in dots (room_to limit size) ≤ most_dots
 room-le dots size None d h = d
-room-le dots size (UpTo n) d h = omega arith
+room-le dots size (Some n) d h = omega arith
 
 rest-room-le : (letter : Letter) (dots gain : ℕ) (l : Line) → dots ≤ most_dots → LineFits l → cap_in dots ((letter_of letter).rest_room l gain) ≤ most_dots
 rest-room-le A dots gain l d f = d

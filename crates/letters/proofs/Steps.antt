@@ -5,21 +5,19 @@ use mathlib.Core.List.{List, [], ◌∷◌, map}
 use Prim.Native.Nat.{ℕ, ◌+◌, ◌≤◌, ◌<◌, max}
 use native.Mathlib.Nat.{add-zero, zero-add}
 use native.Mathlib.Omega.{arith}
-use lib.ListN.{length, get_or, drop, set, drop_of_length-le}
-use lib.Seq.{get_or-drop, drop-drop}
+use lib.ListN.{length, get_or, drop, drop_of_length-le}
 use Rattle.laws.specs.Lists.{among, some, every, larger}
 use Rattle.laws.specs.Alls.{all-image-at}
 use Rattle.laws.specs.Sums.{sum}
-use Rattle.laws.specs.Walk.{next, kept}
+use Rattle.laws.specs.Walk.{next}
 use Rattle.kinds.specs.Kinds.{Row, maximum_tag, maximum_number}
 use Rattle.kinds.specs.declared.track.Maximum.{Maximum}
 use Rattle.kinds.specs.declared.track.Maximum.TheVariants as maximum
 use Rattle.spanned.specs.Rule.{most_size}
 use Rattle.spanned.specs.Sound.{most_of}
-use Rattle.lines.specs.declared.limit.Limit.{Limit}
-use Rattle.lines.specs.declared.limit.Limit.TheVariants.{None, UpTo}
+use Rattle.std.specs.Prelude.{Some, None}
 use Rattle.lines.specs.declared.line.Line.{Line}
-use Rattle.lines.specs.Rule.{max_in, number, maxima}
+use Rattle.lines.specs.Rule.{Limit, max_in, number, maxima}
 use Rattle.lines.specs.Rows.{line_of, lines_of}
 use Rattle.lines.specs.Fits.{LineFits, LinesFit}
 use Rattle.letters.specs.Letters.{fixed_maximum}
@@ -71,20 +69,20 @@ module _ (rows : List Row) (i : ℕ) where
 -- so many dots more, where there is a number
 abbrev pub plus : ℕ → Limit → Limit
 plus n None = None
-plus n (UpTo m) = UpTo (n + m)
+plus n (Some m) = Some (n + m)
 
 pub plus-zero : (m : Limit) → plus 0 m ≡ m
 plus-zero None = refl
-plus-zero (UpTo m) = ap UpTo (zero-add m)
+plus-zero (Some m) = ap Some (zero-add m)
 
 plus-plus : (a b : ℕ) (m : Limit) → plus a (plus b m) ≡ plus (a + b) m
 plus-plus a b None = refl
-plus-plus a b (UpTo m) = let e : a + (b + m) ≡ a + b + m = omega arith in ap UpTo e
+plus-plus a b (Some m) = let e : a + (b + m) ≡ a + b + m = omega arith in ap Some e
 
-no_number : {X : Type 0} (n : ℕ) → None ≡ UpTo n → X
+no_number : {X : Type 0} (n : ℕ) → None ≡ Some n → X
 no_number n e = let z : ◌≡◌ {A = ℕ} 0 1 = cc in absurd (omega arith)
 
-fixed_told : (m : Maximum) (n : ℕ) → fixed_maximum m ≡ UpTo n → (among (1 ∷ 5 ∷ []) (maximum_tag m) ≡ true) × (maximum_number m ≡ n)
+fixed_told : (m : Maximum) (n : ℕ) → fixed_maximum m ≡ Some n → (among (1 ∷ 5 ∷ []) (maximum_tag m) ≡ true) × (maximum_number m ≡ n)
 unfolding among
 fixed_told (maximum.Fixed k) n e = (refl, cc)
 fixed_told maximum.Auto n e = no_number n e
@@ -102,7 +100,7 @@ fixed-not maximum.MaxContent e = refl
 fixed-not (maximum.FitContent k) e = no_number k (sym e)
 fixed-not (maximum.Fr k) e = refl
 
-fixed-le : (m : Maximum) (n : ℕ) → fixed_maximum m ≡ UpTo n → maximum_number m ≤ most_of m → n ≤ most_size
+fixed-le : (m : Maximum) (n : ℕ) → fixed_maximum m ≡ Some n → maximum_number m ≤ most_of m → n ≤ most_size
 fixed-le (maximum.Fixed k) n e h = let f : k ≡ n = cc in omega arith
 fixed-le maximum.Auto n e h = no_number n e
 fixed-le maximum.MinContent n e h = no_number n e
@@ -110,11 +108,11 @@ fixed-le maximum.MaxContent n e h = no_number n e
 fixed-le (maximum.FitContent k) n e h = let f : k ≡ n = cc in omega arith
 fixed-le (maximum.Fr k) n e h = no_number n e
 
-maxima-cons : (l : Line) (ls : List Line) (n : ℕ) → fixed_maximum l.track.maximum ≡ UpTo n → maxima (l ∷ ls) ≡ plus n (maxima ls)
+maxima-cons : (l : Line) (ls : List Line) (n : ℕ) → fixed_maximum l.track.maximum ≡ Some n → maxima (l ∷ ls) ≡ plus n (maxima ls)
 unfolding every sum
 maxima-cons l ls n e = let f = fixed_told l.track.maximum n e in rw (f.0, f.1) (go (every (max_in (1 ∷ 5 ∷ [])) ls))
   where
-    go : (b : Bool) → cond b (UpTo (n + sum (map number ls))) None ≡ plus n (cond b (UpTo (sum (map number ls))) None)
+    go : (b : Bool) → cond b (Some (n + sum (map number ls))) None ≡ plus n (cond b (Some (sum (map number ls))) None)
     go true = refl
     go false = refl
 
@@ -123,7 +121,7 @@ unfolding every sum
 maxima-none l ls e = rw (fixed-not l.track.maximum e) refl
 
 module _ (rows : List Row) (i total : ℕ) (w : Limit) where
-  pub maxima-step : (n : ℕ) → i < length rows → fixed_maximum (line_of (get_or rows i [])).track.maximum ≡ UpTo n
+  pub maxima-step : (n : ℕ) → i < length rows → fixed_maximum (line_of (get_or rows i [])).track.maximum ≡ Some n
       → plus total (maxima (lines_from rows i)) ≡ w → plus (total + n) (maxima (lines_from rows (i + 1))) ≡ w
   maxima-step n h e p =
       sym (plus-plus total n (maxima (lines_from rows (i + 1))))
@@ -135,14 +133,14 @@ module _ (rows : List Row) (i total : ℕ) (w : Limit) where
       ap (plus total) (sym (maxima-none (line_of (get_or rows i [])) (lines_from rows (i + 1)) e) ∙ ap (λ (ls : List Line). maxima ls) (sym (lines_next rows i h)))
       ∙ p
 
-  pub maxima-end : length rows ≤ i → plus total (maxima (lines_from rows i)) ≡ w → UpTo total ≡ w
+  pub maxima-end : length rows ≤ i → plus total (maxima (lines_from rows i)) ≡ w → Some total ≡ w
   unfolding every sum
   maxima-end h p =
-      ap UpTo (sym (add-zero total))
+      ap Some (sym (add-zero total))
       ∙ ap (λ (ls : List Line). plus total (maxima ls)) (sym (lines_end rows i h))
       ∙ p
 
-pub fixed-fits : (rows : List Row) (i n : ℕ) → LinesFit (lines_of rows) → i < length rows → fixed_maximum (line_of (get_or rows i [])).track.maximum ≡ UpTo n → n ≤ most_size
+pub fixed-fits : (rows : List Row) (i n : ℕ) → LinesFit (lines_of rows) → i < length rows → fixed_maximum (line_of (get_or rows i [])).track.maximum ≡ Some n → n ≤ most_size
 fixed-fits rows i n a h e = fixed-le (line_of (get_or rows i [])).track.maximum n e (line-fits rows i a h).track.1
 
 -- ---- the larger of each two
@@ -156,15 +154,3 @@ pub larger-step : (gains : List ℕ) (i x v : ℕ) (xs : List ℕ) → i < lengt
     → larger (drop i gains) (x ∷ xs) ≡ v ∷ larger (drop (i + 1) gains) xs
 unfolding larger
 larger-step gains i x v xs h e = rw (next gains i 0 h, e) refl
-
--- ---- lists that are the same from the place i on
-
-module _ {A : Type 0} (xs ys : List A) (i : ℕ) (e : drop i xs ≡ drop i ys) where
-  pub same_here : (d : A) → get_or xs i d ≡ get_or ys i d
-  same_here d =
-      let a : get_or (drop i xs) 0 d ≡ get_or xs i d = get_or-drop i xs 0 d ∙ ap (λ (k : ℕ). get_or xs k d) (add-zero i) in
-      let b : get_or (drop i ys) 0 d ≡ get_or ys i d = get_or-drop i ys 0 d ∙ ap (λ (k : ℕ). get_or ys k d) (add-zero i) in
-      sym a ∙ ap (λ (zs : List A). get_or zs 0 d) e ∙ b
-
-  pub same_next : (v : A) → drop (i + 1) (set xs i v) ≡ drop (i + 1) ys
-  same_next v = kept xs i v ∙ sym (drop-drop 1 i xs) ∙ ap (drop 1) e ∙ drop-drop 1 i ys

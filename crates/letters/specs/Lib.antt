@@ -4,3 +4,4 @@ pub mod Shares
 pub mod Totals
 pub mod Batches
 pub mod Factors
+pub mod Props

@@ -12,6 +12,7 @@ ghost use Rattle.letters.specs.Batches.{affected_in, shares_in};
 use crate::by_factor::{affects_fr, share_by_factor};
 use crate::letter::Letter;
 use crate::share::share_extra;
+use crate::some_line::some_line;
 use lines::Line;
 
 #[derive(Clone, Copy)]
@@ -35,15 +36,7 @@ impl Batch {
 pub fn affects_some(batch: Batch, letter: Letter, lines: &[[u32; 8]]) -> bool
     ensures { result ≡ some (affected_in batch (letter_of letter)) (lines_of lines.now) }
 {
-    let mut i = 0;
-    while i < lines.len() {
-        let line = Line::of_row(lines[i]);
-        if batch.affects(letter, line) {
-            return true;
-        }
-        i += 1;
-    }
-    false
+    some_line(lines, |line| batch.affects(letter, line))
 }
 
 // The extra dots of an item, shared as its batch has it among lines of which one at least is affected.

@@ -16,14 +16,13 @@ ghost use Rattle.letters.specs.Factors.{line_factor, line_factors, FactorsFit};
 use crate::letter::Letter;
 use crate::share::{Share, share_out, take_off};
 use lines::Line;
-use rounds::{less, take_odd};
+use rounds::take_odd;
 use spanned::is_fr;
 
 pub(crate) fn affects_fr(letter: Letter, line: Line) -> bool
     ensures { result ≡ affects_fr (letter_of letter) line }
 {
-    let affected = letter.affected(line);
-    affected & is_fr(line.track)
+    letter.affected(line) & is_fr(line.track)
 }
 
 // The factor of a line, which its row has as the maximum's number; 0 where the letter does not affect it or it is not fr.
@@ -31,9 +30,10 @@ fn line_factor(letter: Letter, row: [u32; 8]) -> u32
     ensures { result ≡ line_factor letter (line_of row) }
 {
     if affects_fr(letter, Line::of_row(row)) {
-        return row[3];
+        row[3]
+    } else {
+        0
     }
-    0
 }
 
 // The factors that count, into gains and rests. All of them together come back.
@@ -44,13 +44,11 @@ fn load_factors(letter: Letter, lines: &[[u32; 8]], gains: &mut [u32], rests: &m
         × (result ≡ sum (line_factors letter lines.now)) }
 {
     let mut total: u64 = 0;
-    let mut i = 0;
-    while i < lines.len() {
-        let factor = line_factor(letter, lines[i]);
+    for (i, row) in lines.iter().enumerate() {
+        let factor = line_factor(letter, *row);
         gains[i] = factor;
         rests[i] = factor;
         total += factor as u64;
-        i += 1;
     }
     total
 }
@@ -75,13 +73,10 @@ fn load_quotas(dots: u32, total: u64, factors: &[u32], gains: &mut [u32]) -> u32
         × (result ≡ dots_over dots factors.now) }
 {
     let mut over = dots;
-    let mut i = 0;
-    while i < factors.len() {
-        let factor = factors[i];
-        let part = quota(dots, total, factor);
-        gains[i] = part + factor;
-        over = less(over, part);
-        i += 1;
+    for (i, factor) in factors.iter().enumerate() {
+        let part = quota(dots, total, *factor);
+        gains[i] = part + *factor;
+        over = over.saturating_sub(part);
     }
     over
 }

@@ -6,80 +6,77 @@ ghost use Rattle.lines.specs.Rule.{maxima, limited, for_auto, extra_of};
 ghost use Rattle.lines.specs.Rows.{lines_of};
 ghost use Rattle.lines.specs.Fits.{LinesFit};
 ghost use Rattle.letters.specs.Letters.{letter_of, fixed_maximum};
+ghost use Rattle.letters.specs.Props.{lines-fit-once};
 
 use crate::letter::Letter;
 use kinds::{Constraint, ContributionKind, Maximum};
-use lines::{Limit, Line, Measured};
-use rounds::larger;
+use lines::{Line, Measured};
 
 // The number of a maximum that is fixed or fit-content.
-fn fixed_maximum(line: Line) -> Limit
+fn fixed_maximum(line: Line) -> Option<u32>
     ensures { result ≡ fixed_maximum line.track.maximum }
 {
-    let track = line.track;
-    let maximum = track.maximum;
-    match maximum {
-        Maximum::Fixed(n) => Limit::UpTo(n),
-        Maximum::Auto => Limit::None,
-        Maximum::MinContent => Limit::None,
-        Maximum::MaxContent => Limit::None,
-        Maximum::FitContent(n) => Limit::UpTo(n),
-        Maximum::Fr(_) => Limit::None,
+    match line.track.maximum {
+        Maximum::Fixed(n) | Maximum::FitContent(n) => Some(n),
+        _ => None,
     }
 }
 
-// The sum of the spanned maxima when all are fixed or fit-content.
-fn maxima(lines: &[[u32; 8]]) -> Limit
-    requires { (length lines.now ≤ most_tracks) × LinesFit (lines_of lines.now) }
-    ensures { result ≡ maxima (lines_of lines.now) }
-{
-    let mut sum: u32 = 0;
-    let mut i = 0;
-    while i < lines.len() {
-        let maximum = fixed_maximum(Line::of_row(lines[i]));
-        if let Limit::UpTo(n) = maximum {
-            sum += n;
-        } else {
-            return Limit::None;
+// The lines that an item spans, or the one of its track: not too many, and each of them fits.
+#[derive(Clone, Copy)]
+pub struct Span<'a> {
+    pub lines: &'a [[u32; 8]],
+    ghost few: { length lines.now ≤ most_tracks },
+    ghost fit: { LinesFit (lines_of lines.now) } by { lines-fit-once (lines_of lines.now) },
+}
+
+impl<'a> Span<'a> {
+    // The sum of the spanned maxima when all are fixed or fit-content.
+    fn maxima(self) -> Option<u32>
+        ensures { result ≡ maxima (lines_of self.entry.lines.now) }
+    {
+        let mut sum: u32 = 0;
+        for row in self.lines {
+            sum += fixed_maximum(Line::of_row(*row))?;
         }
-        i += 1;
+        Some(sum)
     }
-    Limit::UpTo(sum)
-}
 
-// Cut to the sum of the maxima, then raised to the minimum contribution.
-fn limited(n: u32, item: Measured, lines: &[[u32; 8]]) -> u32
-    requires { (length lines.now ≤ most_tracks) × LinesFit (lines_of lines.now) }
-    ensures { result ≡ limited n item (lines_of lines.now) }
-{
-    let most = maxima(lines);
-    let cut = most.cut(n);
-    larger(item.at(ContributionKind::Minimum), cut)
-}
-
-// The minimum contribution, or under a min- or max-content constraint the limited min-content one.
-pub fn for_auto(constraint: Constraint, item: Measured, lines: &[[u32; 8]]) -> u32
-    requires { (length lines.now ≤ most_tracks) × LinesFit (lines_of lines.now) }
-    ensures { result ≡ for_auto constraint item (lines_of lines.now) }
-{
-    match constraint {
-        Constraint::Definite(_) => item.at(ContributionKind::Minimum),
-        Constraint::MinContent => limited(item.at(ContributionKind::MinContent), item, lines),
-        Constraint::MaxContent => limited(item.at(ContributionKind::MinContent), item, lines),
+    // Cut to the sum of the maxima, then raised to the minimum contribution.
+    fn limited(self, n: u32, item: Measured) -> u32
+        ensures { result ≡ limited n item (lines_of self.entry.lines.now) }
+    {
+        let cut = self.maxima().map_or(n, |most| most.min(n));
+        item.at(ContributionKind::Minimum).max(cut)
     }
-}
 
-fn contribution(letter: Letter, constraint: Constraint, item: Measured, lines: &[[u32; 8]]) -> u32
-    requires { (length lines.now ≤ most_tracks) × LinesFit (lines_of lines.now) }
-    ensures { result ≡ (letter_of letter).contribution constraint item (lines_of lines.now) }
-{
-    match letter {
-        Letter::A => for_auto(constraint, item, lines),
-        Letter::B => item.at(ContributionKind::MinContent),
-        Letter::C => limited(item.at(ContributionKind::MaxContent), item, lines),
-        Letter::D => item.at(ContributionKind::MaxContent),
-        Letter::E => item.at(ContributionKind::MinContent),
-        Letter::F => item.at(ContributionKind::MaxContent),
+    // The minimum contribution, or under a min- or max-content constraint the limited min-content one.
+    pub fn for_auto(self, constraint: Constraint, item: Measured) -> u32
+        ensures { result ≡ for_auto constraint item (lines_of self.entry.lines.now) }
+    {
+        match constraint {
+            Constraint::Definite(_) => item.at(ContributionKind::Minimum),
+            _ => self.limited(item.at(ContributionKind::MinContent), item),
+        }
+    }
+
+    fn contribution(self, letter: Letter, constraint: Constraint, item: Measured) -> u32
+        ensures { result ≡ (letter_of letter).contribution constraint item (lines_of self.entry.lines.now) }
+    {
+        match letter {
+            Letter::A => self.for_auto(constraint, item),
+            Letter::B | Letter::E => item.at(ContributionKind::MinContent),
+            Letter::C => self.limited(item.at(ContributionKind::MaxContent), item),
+            Letter::D | Letter::F => item.at(ContributionKind::MaxContent),
+        }
+    }
+
+    // The dots that an item asks beyond the sizes of the lines that it spans, which make `total`.
+    pub fn extra(self, letter: Letter, constraint: Constraint, item: Measured, total: u64) -> u32
+        requires { total ≡ sum (map (letter_of letter).present (lines_of self.lines.now)) }
+        ensures { result ≡ extra_of (letter_of letter) constraint item (lines_of self.entry.lines.now) }
+    {
+        beyond(self.contribution(letter, constraint, item), total)
     }
 }
 
@@ -87,26 +84,5 @@ fn contribution(letter: Letter, constraint: Constraint, item: Measured, lines: &
 pub fn beyond(dots: u32, total: u64) -> u32
     ensures { result ≡ dots - total }
 {
-    let all = dots as u64;
-    if all <= total {
-        return 0;
-    }
-    (all - total) as u32
-}
-
-// The dots that an item asks beyond the sizes of the lines that it spans, which make `total`.
-pub fn extra(
-    letter: Letter,
-    constraint: Constraint,
-    item: Measured,
-    lines: &[[u32; 8]],
-    total: u64,
-) -> u32
-    requires { (length lines.now ≤ most_tracks)
-        × LinesFit (lines_of lines.now)
-        × (total ≡ sum (map (letter_of letter).present (lines_of lines.now))) }
-    ensures { result ≡ extra_of (letter_of letter) constraint item (lines_of lines.now) }
-{
-    let asked = contribution(letter, constraint, item, lines);
-    beyond(asked, total)
+    (dots as u64).saturating_sub(total) as u32
 }

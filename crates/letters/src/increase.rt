@@ -7,17 +7,14 @@ ghost use Rattle.lines.specs.Rows.{lines_of};
 ghost use Rattle.letters.specs.Increases.{Applicable, BasesApplicable, applied, NoIncrease};
 
 use crate::letter::Letter;
-use rounds::larger;
 
 // What an item gave is laid over the largest that any gave before.
 pub fn lay_over(gains: &[u32], increases: &mut [u32])
     requires { length gains.now ≡ length increases.old }
     ensures { increases.new ≡ larger gains.now increases.old }
 {
-    let mut i = 0;
-    while i < increases.len() {
-        increases[i] = larger(gains[i], increases[i]);
-        i += 1;
+    for (i, increase) in increases.iter_mut().enumerate() {
+        *increase = gains[i].max(*increase);
     }
 }
 
@@ -27,12 +24,9 @@ pub fn apply(letter: Letter, lines: &mut [[u32; 8]], increases: &mut [u32])
     ensures { (lines_of lines.new ≡ applied letter lines.old increases.old)
         × NoIncrease lines.old increases.new }
 {
-    let mut i = 0;
-    while i < lines.len() {
-        let row = lines[i];
-        lines[i] = letter.grown(row, increases[i]);
+    for (i, row) in lines.iter_mut().enumerate() {
+        *row = letter.grown(*row, increases[i]);
         increases[i] = 0;
-        i += 1;
     }
 }
 

@@ -5,7 +5,7 @@ ghost use Rattle.lines.specs.Rule.{limit_size, grown_base, grown_limit, limit_ro
 ghost use Rattle.letters.specs.Letters.{by_minimum, by_maximum, letter_of, changes_unraised, most};
 
 use kinds::{Maximum, Minimum};
-use lines::{Limit, Line, with_sizes};
+use lines::{Line, with_sizes};
 
 #[derive(Clone, Copy)]
 pub enum Letter {
@@ -17,13 +17,12 @@ pub enum Letter {
     F,
 }
 
-// Whether a minimum is of a wanted kind; fixed never is.
+// Whether a minimum is of a wanted kind; fixed never is. Flags, and no `matches!` for each letter: one match serves them all, as the
+// letters' lists of kinds do in the rule.
 fn by_minimum(line: Line, auto: bool, min_content: bool, max_content: bool) -> bool
     ensures { result ≡ by_minimum line.track.minimum auto min_content max_content }
 {
-    let track = line.track;
-    let minimum = track.minimum;
-    match minimum {
+    match line.track.minimum {
         Minimum::Fixed(_) => false,
         Minimum::Auto => auto,
         Minimum::MinContent => min_content,
@@ -35,34 +34,22 @@ fn by_minimum(line: Line, auto: bool, min_content: bool, max_content: bool) -> b
 pub(crate) fn by_maximum(line: Line, wide: bool, min_content: bool, fit_content: bool) -> bool
     ensures { result ≡ by_maximum line.track.maximum wide min_content fit_content }
 {
-    let track = line.track;
-    let maximum = track.maximum;
-    match maximum {
-        Maximum::Fixed(_) => false,
-        Maximum::Auto => wide,
+    match line.track.maximum {
+        Maximum::Auto | Maximum::MaxContent => wide,
         Maximum::MinContent => min_content,
-        Maximum::MaxContent => wide,
         Maximum::FitContent(_) => fit_content,
-        Maximum::Fr(_) => false,
+        _ => false,
     }
 }
 
 // The room of a limit: none at all, unless it is missing or infinitely growable.
-fn limit_room(line: Line) -> Limit
+fn limit_room(line: Line) -> Option<u32>
     ensures { room_of result ≡ limit_room line }
 {
-    let limit = line.limit;
-    let argument = line.argument();
-    let room = argument.room_from(line.limit_size());
-    match limit {
-        Limit::None => room,
-        Limit::UpTo(_) => {
-            if line.growable {
-                return room;
-            }
-            Limit::UpTo(0)
-        }
+    if line.limit.is_none() || line.growable {
+        return line.argument().map(|n| n.saturating_sub(line.limit_size()));
     }
+    Some(0)
 }
 
 impl Letter {
@@ -84,41 +71,32 @@ impl Letter {
         ensures { result ≡ (letter_of self).takes line }
     {
         match self {
-            Letter::A => by_maximum(line, true, true, false),
-            Letter::B => by_maximum(line, true, true, false),
-            Letter::C => by_maximum(line, true, false, false),
-            Letter::D => by_maximum(line, true, false, false),
-            Letter::E => true,
-            Letter::F => true,
+            Letter::A | Letter::B => by_maximum(line, true, true, false),
+            Letter::C | Letter::D => by_maximum(line, true, false, false),
+            Letter::E | Letter::F => true,
         }
     }
 
-    pub(crate) fn room(self, line: Line) -> Limit
+    pub(crate) fn room(self, line: Line) -> Option<u32>
         ensures { room_of result ≡ (letter_of self).room line }
     {
         match self {
-            Letter::A => line.base_room(),
-            Letter::B => line.base_room(),
-            Letter::C => line.base_room(),
-            Letter::D => line.base_room(),
-            Letter::E => limit_room(line),
-            Letter::F => limit_room(line),
+            Letter::E | Letter::F => limit_room(line),
+            _ => line.base_room(),
         }
     }
 
     // The room for what remains, with a gain already there: no limit for bases, the argument for limits.
-    pub(crate) fn rest_room(self, line: Line, gain: u32) -> Limit
+    pub(crate) fn rest_room(self, line: Line, gain: u32) -> Option<u32>
         ensures { room_of result ≡ (letter_of self).rest_room line gain }
     {
-        let argument = line.argument();
-        let room = argument.room_above(line.limit_size(), gain);
+        let size = line.limit_size();
+        let room = line
+            .argument()
+            .map(|n| n.saturating_sub(size).saturating_sub(gain));
         match self {
-            Letter::A => Limit::None,
-            Letter::B => Limit::None,
-            Letter::C => Limit::None,
-            Letter::D => Limit::None,
-            Letter::E => room,
-            Letter::F => room,
+            Letter::E | Letter::F => room,
+            _ => None,
         }
     }
 
@@ -127,12 +105,8 @@ impl Letter {
         ensures { result ≡ (letter_of self).present line }
     {
         match self {
-            Letter::A => line.base,
-            Letter::B => line.base,
-            Letter::C => line.base,
-            Letter::D => line.base,
-            Letter::E => line.limit_size(),
-            Letter::F => line.limit_size(),
+            Letter::E | Letter::F => line.limit_size(),
+            _ => line.base,
         }
     }
 
@@ -140,14 +114,7 @@ impl Letter {
     pub fn changes_unraised(self) -> bool
         ensures { result ≡ changes_unraised self }
     {
-        match self {
-            Letter::A => false,
-            Letter::B => false,
-            Letter::C => false,
-            Letter::D => true,
-            Letter::E => true,
-            Letter::F => true,
-        }
+        matches!(self, Letter::D | Letter::E | Letter::F)
     }
 
     // What an increase makes of a line.
@@ -156,9 +123,7 @@ impl Letter {
         ensures { line_of result ≡ (letter_of self).grown (line_of row) increase }
     {
         match self {
-            Letter::A => grown_base(row, increase),
-            Letter::B => grown_base(row, increase),
-            Letter::C => grown_base(row, increase),
+            Letter::A | Letter::B | Letter::C => grown_base(row, increase),
             Letter::D => lines::settled(grown_base(row, increase)),
             Letter::E => grown_limit(row, increase, true),
             Letter::F => grown_limit(row, increase, false),
@@ -171,8 +136,7 @@ fn grown_base(row: [u32; 8], increase: u32) -> [u32; 8]
     ensures { line_of result ≡ grown_base (line_of row) increase }
 {
     let line = Line::of_row(row);
-    let limit = line.limit;
-    with_sizes(row, line.base + increase, limit, line.growable)
+    with_sizes(row, line.base + increase, line.limit, line.growable)
 }
 
 // A missing limit becomes base plus increase, if there is one, and is then infinitely growable where the letter marks.
@@ -181,15 +145,10 @@ fn grown_limit(row: [u32; 8], increase: u32, marks: bool) -> [u32; 8]
     ensures { line_of result ≡ grown_limit marks (line_of row) increase }
 {
     let line = Line::of_row(row);
-    let limit = line.limit;
     let base = line.base;
-    match limit {
-        Limit::None => {
-            if increase == 0 {
-                return with_sizes(row, base, Limit::None, false);
-            }
-            with_sizes(row, base, Limit::UpTo(base + increase), marks)
-        }
-        Limit::UpTo(n) => with_sizes(row, base, Limit::UpTo(n + increase), false),
+    match line.limit {
+        None if increase == 0 => with_sizes(row, base, None, false),
+        None => with_sizes(row, base, Some(base + increase), marks),
+        Some(n) => with_sizes(row, base, Some(n + increase), false),
     }
 }

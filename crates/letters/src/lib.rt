@@ -8,10 +8,11 @@ mod contribution;
 mod increase;
 mod letter;
 mod share;
+mod some_line;
 mod totals;
 
 pub use batch::{Batch, affects_some, share_in};
-pub use contribution::{beyond, extra, for_auto};
+pub use contribution::{Span, beyond};
 pub use increase::{apply, grow_bases, lay_over};
 pub use letter::Letter;
 pub use share::{Share, share_out};

@@ -1,5 +1,7 @@
 // Shares of dots among lines: each gets what the fill gives it, on top of the gain that it has. The two shares of a letter find
 // each cap once, and keep it in the gain while the rounds run. The rests are scratch: what stands in them is not read.
+// Lines, gains and rests stay three slices and no struct: a caller cuts its part of each for one item, `share_out` takes increases for gains,
+// and the rounds take the rests alone.
 ghost use Rattle.std.specs.Prelude.{◌≡◌, cond, not, ◌&&◌, ◌||◌, ◌+◌, ◌≤◌, length};
 ghost use mathlib.Core.List.{[], ◌∷◌, map, zip_with};
 ghost use Rattle.laws.specs.Lists.{some};
@@ -13,9 +15,10 @@ ghost use Rattle.letters.specs.Shares.{track_in, is_taker, first_caps, first_fil
 
 use crate::by_factor::affects_fr;
 use crate::letter::Letter;
+use crate::some_line::some_line;
 use kinds::Maximum;
-use lines::{Limit, Line};
-use rounds::{less, run_rounds};
+use lines::Line;
+use rounds::run_rounds;
 
 // What is shared out by one fill alone: the dots of step 5, those of step 7, or those of a letter in the last batch where all factors are 0.
 #[derive(Clone, Copy)]
@@ -26,13 +29,10 @@ pub enum Share {
 }
 
 // A track that is not affected takes nothing.
-fn cap_of(affected: bool, room: Limit, dots: u32) -> u32
+fn cap_of(affected: bool, room: Option<u32>, dots: u32) -> u32
     ensures { result ≡ cond affected (cap_in dots (room_of room)) 0 }
 {
-    if affected {
-        return room.cap(dots);
-    }
-    0
+    if affected { room.unwrap_or(dots) } else { 0 }
 }
 
 // Whether a track takes what remains of a letter's dots. `takers_only` says that some affected track does before the others, so that
@@ -40,27 +40,14 @@ fn cap_of(affected: bool, room: Limit, dots: u32) -> u32
 fn takes_rest(letter: Letter, takers_only: bool, line: Line) -> bool
     ensures { result ≡ ((letter_of letter).affected line && ((letter_of letter).takes line || not takers_only)) }
 {
-    let affected = letter.affected(line);
-    let takes = letter.takes(line);
-    if takers_only {
-        return affected & takes;
-    }
-    affected
+    let takes = letter.takes(line) | !takers_only;
+    letter.affected(line) & takes
 }
 
 fn is_auto(line: Line) -> bool
     ensures { result ≡ max_in (2 ∷ []) line }
 {
-    let track = line.track;
-    let maximum = track.maximum;
-    match maximum {
-        Maximum::Fixed(_) => false,
-        Maximum::Auto => true,
-        Maximum::MinContent => false,
-        Maximum::MaxContent => false,
-        Maximum::FitContent(_) => false,
-        Maximum::Fr(_) => false,
-    }
+    matches!(line.track.maximum, Maximum::Auto)
 }
 
 impl Share {
@@ -70,8 +57,8 @@ impl Share {
     {
         match self {
             Share::Maximise => cap_of(true, line.base_room(), dots),
-            Share::Stretch => cap_of(is_auto(line), Limit::None, dots),
-            Share::Plain(letter) => cap_of(affects_fr(letter, line), Limit::None, dots),
+            Share::Stretch => cap_of(is_auto(line), None, dots),
+            Share::Plain(letter) => cap_of(affects_fr(letter, line), None, dots),
         }
     }
 }
@@ -80,10 +67,8 @@ fn load(share: Share, dots: u32, lines: &[[u32; 8]], rests: &mut [u32])
     requires { length rests.old ≡ length lines.now }
     ensures { rests.new ≡ caps dots (map (track_in share) (lines_of lines.now)) }
 {
-    let mut i = 0;
-    while i < rests.len() {
-        rests[i] = share.cap(Line::of_row(lines[i]), dots);
-        i += 1;
+    for (i, rest) in rests.iter_mut().enumerate() {
+        *rest = share.cap(Line::of_row(lines[i]), dots);
     }
 }
 
@@ -92,12 +77,9 @@ fn collect(share: Share, dots: u32, lines: &[[u32; 8]], rests: &[u32], gains: &m
     requires { Scratch lines.now gains.old rests.now × TakenFits share dots lines.now gains.old rests.now }
     ensures { gains.new ≡ zip_with ◌+◌ gains.old (taken share dots lines.now gains.old rests.now) }
 {
-    let mut i = 0;
-    while i < gains.len() {
-        let gain = gains[i];
+    for (i, gain) in gains.iter_mut().enumerate() {
         let cap = share.cap(Line::of_row(lines[i]), dots);
-        gains[i] = gain + less(cap, rests[i]);
-        i += 1;
+        *gain += cap.saturating_sub(rests[i]);
     }
 }
 
@@ -125,25 +107,22 @@ fn load_first(letter: Letter, dots: u32, lines: &[[u32; 8]], gains: &mut [u32], 
     ensures { (gains.new ≡ first_caps letter dots lines.now)
         × (rests.new ≡ first_caps letter dots lines.now) }
 {
-    let mut i = 0;
-    while i < lines.len() {
-        let line = Line::of_row(lines[i]);
+    for (i, row) in lines.iter().enumerate() {
+        let line = Line::of_row(*row);
         let cap = cap_of(letter.affected(line), letter.room(line), dots);
         gains[i] = cap;
         rests[i] = cap;
-        i += 1;
     }
 }
 
-// Each rest is taken off its gain: of the cap that stands in it, what was taken stays.
+// Each rest is taken off its gain: of the cap that stands in it, what was taken stays. A walk shared with `lay_over` would be longer than
+// both: theirs are two rules, which part where the lists are not as long as each other.
 pub(crate) fn take_off(rests: &[u32], gains: &mut [u32])
     requires { length rests.now ≡ length gains.old }
     ensures { gains.new ≡ lost gains.old rests.now }
 {
-    let mut i = 0;
-    while i < gains.len() {
-        gains[i] = less(gains[i], rests[i]);
-        i += 1;
+    for (i, gain) in gains.iter_mut().enumerate() {
+        *gain = (*gain).saturating_sub(rests[i]);
     }
 }
 
@@ -170,15 +149,7 @@ fn share_first(
 fn some_taker(letter: Letter, lines: &[[u32; 8]]) -> bool
     ensures { result ≡ some (is_taker (letter_of letter)) (lines_of lines.now) }
 {
-    let mut i = 0;
-    while i < lines.len() {
-        let line = Line::of_row(lines[i]);
-        if letter.affected(line) & letter.takes(line) {
-            return true;
-        }
-        i += 1;
-    }
-    false
+    some_line(lines, |line| letter.affected(line) & letter.takes(line))
 }
 
 // The caps of what remains: the rounds run on the rests, and each gain has its cap on top.
@@ -194,9 +165,8 @@ fn load_rest(
     ensures { (gains.new ≡ zip_with ◌+◌ gains.old (rest_caps letter takers_only dots lines.now gains.old))
         × (rests.new ≡ rest_caps letter takers_only dots lines.now gains.old) }
 {
-    let mut i = 0;
-    while i < lines.len() {
-        let line = Line::of_row(lines[i]);
+    for (i, row) in lines.iter().enumerate() {
+        let line = Line::of_row(*row);
         let gain = gains[i];
         let cap = cap_of(
             takes_rest(letter, takers_only, line),
@@ -205,7 +175,6 @@ fn load_rest(
         );
         gains[i] = gain + cap;
         rests[i] = cap;
-        i += 1;
     }
 }
 

@@ -16,16 +16,13 @@ pub fn tally(lines: &[[u32; 8]], sums: &mut [[u64; 2]])
 {
     let mut bases: u64 = 0;
     let mut limits: u64 = 0;
-    let mut i = 0;
-    while i < lines.len() {
-        let line = Line::of_row(lines[i]);
-        let limit = line.limit_size();
+    for (i, row) in lines.iter().enumerate() {
+        let line = Line::of_row(*row);
         sums[i] = [bases, limits];
         bases += line.base as u64;
-        limits += limit as u64;
-        i += 1;
+        limits += line.limit_size() as u64;
     }
-    sums[i] = [bases, limits];
+    sums[lines.len()] = [bases, limits];
 }
 
 // All the bases together.
@@ -34,11 +31,8 @@ pub fn base_total(lines: &[[u32; 8]]) -> u64
     ensures { result ≡ bases (lines_of lines.now) }
 {
     let mut total: u64 = 0;
-    let mut i = 0;
-    while i < lines.len() {
-        let line = Line::of_row(lines[i]);
-        total += line.base as u64;
-        i += 1;
+    for row in lines {
+        total += Line::of_row(*row).base as u64;
     }
     total
 }
@@ -48,15 +42,10 @@ impl Letter {
     fn total_in(self, sums: [u64; 2]) -> u64
         ensures { result ≡ total_in self sums }
     {
-        let bases = sums[0];
-        let limits = sums[1];
+        let [bases, limits] = sums;
         match self {
-            Letter::A => bases,
-            Letter::B => bases,
-            Letter::C => bases,
-            Letter::D => bases,
-            Letter::E => limits,
-            Letter::F => limits,
+            Letter::E | Letter::F => limits,
+            _ => bases,
         }
     }
 
@@ -65,8 +54,6 @@ impl Letter {
         requires { total_in self from ≤ total_in self to }
         ensures { result ≡ total_in self to - total_in self from }
     {
-        let before = self.total_in(from);
-        let all = self.total_in(to);
-        all - before
+        self.total_in(to) - self.total_in(from)
     }
 }

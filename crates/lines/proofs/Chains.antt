@@ -1,4 +1,4 @@
--- A chain is walked item by item: where it ends, and what it is before each step. Assumes nothing.
+-- A chain item by item: where it ends, and what it is before each step; and a walk over the items. Assumes nothing.
 use mathlib.Core.Path.{◌≡◌, refl, ap, sym, ◌∙◌}
 use mathlib.Core.Logic.{⊎_elim}
 use mathlib.Core.List.{List, [], ◌∷◌, ◌++◌, flat_map}
@@ -7,10 +7,15 @@ use native.Mathlib.Omega.{arith}
 use lib.ListN.{length, get_or}
 use borrow.Author.Tests.{lt-ltb, le-ltb}
 use Rattle.laws.specs.Tests.{lt-or-ge}
-use Rattle.laws.specs.Lists.{All, in_turn, in-turn-append}
-use Rattle.laws.specs.Alls.{all-append-left, all-append-right}
-use Rattle.kinds.specs.Kinds.{Row}
+use Rattle.laws.specs.Lists.{All, in_turn}
+use mathlib.Core.Bool.{true, false}
+use Rattle.kinds.specs.Kinds.{Row, item_of}
+use Rattle.kinds.specs.declared.item.Item.{Item}
+use Rattle.spanned.specs.Rule.{lacks_contribution}
 use Rattle.lines.specs.declared.measured.Measured.{Measured}
+use Rattle.lines.specs.Rule.{complete}
+use Rattle.lines.specs.Parts.{measured_of}
+use Rattle.lines.proofs.Parted.{complete-none, complete-one}
 use Rattle.lines.specs.Chains.{Rising, chain_from, chain, part_at, chained}
 
 -- past the items there is nothing
@@ -53,27 +58,36 @@ pub chained-next : (rows : List Row) (nexts : List ℕ) (i : ℕ) → Rising nex
 unfolding chained flat_map
 chained-next rows nexts i r h = rw (chain_next nexts i r h) refl
 
--- ---- A walk along a chain: what it makes of the items is made one item after another
+-- the item at i takes no part, or it comes first
+module _ (rows : List Row) (nexts : List ℕ) (i : ℕ) (r : Rising nexts) (h : i < length nexts) (item : Item) (read : item ≡ item_of (get_or rows i [])) where
+  pub chained-passes : lacks_contribution item ≡ true → chained rows nexts (get_or nexts i 0) ≡ chained rows nexts i
+  chained-passes lacking =
+      ap (◌++ chained rows nexts (get_or nexts i 0)) (sym (complete-none item lacking) ∙ ap (λ (j : Item). complete j) read)
+      ∙ sym (chained-next rows nexts i r h)
 
-module _ (rows : List Row) (nexts : List ℕ) (i : ℕ) (r : Rising nexts) (h : i < length nexts) where
-  -- s' is what the item at i makes of s, and w what the whole walk makes
-  pub walk_turn : {S : Type 0} (f : Measured → S → S) (s s' w : S) → in_turn f (chained rows nexts i) s ≡ w
-      → s' ≡ in_turn f (part_at rows i) s → in_turn f (chained rows nexts (get_or nexts i 0)) s' ≡ w
-  walk_turn f s s' w e t =
-      rw t
-      (sym (in-turn-append f (part_at rows i) (chained rows nexts (get_or nexts i 0)) s)
-      ∙ ap (λ (is : List Measured). in_turn f is s) (sym (chained-next rows nexts i r h))
-      ∙ e)
+  pub chained-gives : lacks_contribution item ≡ false → (m : Measured) → m ≡ measured_of item → chained rows nexts i ≡ m ∷ chained rows nexts (get_or nexts i 0)
+  chained-gives whole m e =
+      chained-next rows nexts i r h
+      ∙ ap (◌++ chained rows nexts (get_or nexts i 0)) (sym (ap (λ (j : Item). complete j) read) ∙ complete-one item whole)
+      ∙ ap (◌∷ chained rows nexts (get_or nexts i 0)) (sym e)
 
-  -- what holds of the chain's items holds of this one, and of those behind it
-  pub all-part : (P : Measured → Type 0) → All P (chained rows nexts i) → All P (part_at rows i)
-  all-part P a = all-append-left P (part_at rows i) (chained rows nexts (get_or nexts i 0)) (rw (chained-next rows nexts i r h) at a)
+-- ---- A walk over items, or whatever stands in a list, one after another: w is what the whole walk makes of s
 
-  pub all_rest : (P : Measured → Type 0) → All P (chained rows nexts i) → All P (chained rows nexts (get_or nexts i 0))
-  all_rest P a = all-append-right P (part_at rows i) (chained rows nexts (get_or nexts i 0)) (rw (chained-next rows nexts i r h) at a)
+module _ {A : Type 0} (items rest : List A) (item : A) (e : items ≡ item ∷ rest) where
+  pub walk_turn : {S : Type 0} (f : A → S → S) (s s' w : S) → in_turn f items s ≡ w → s' ≡ f item s → in_turn f rest s' ≡ w
+  unfolding in_turn
+  walk_turn f s s' w p t = rw t (rw e at p)
+
+  -- what holds of the items holds of the first, and of the rest
+  pub all_first : (P : A → Type 0) → All P items → P item
+  unfolding All
+  all_first P a = (rw e at a).0
+
+  pub all_rest : (P : A → Type 0) → All P items → All P rest
+  unfolding All
+  all_rest P a = (rw e at a).1
 
 -- at the end nothing is left to walk
-pub walk_end : {S : Type 0} (rows : List Row) (nexts : List ℕ) (i : ℕ) (f : Measured → S → S) (s w : S) → length nexts ≤ i
-    → in_turn f (chained rows nexts i) s ≡ w → s ≡ w
+pub walk_end : {A S : Type 0} (items : List A) (f : A → S → S) (s w : S) → items ≡ [] → in_turn f items s ≡ w → s ≡ w
 unfolding in_turn
-walk_end rows nexts i f s w h e = ap (λ (is : List Measured). in_turn f is s) (sym (chained-end rows nexts i h)) ∙ e
+walk_end items f s w h p = rw h at p

@@ -20,11 +20,10 @@ use Rattle.kinds.specs.declared.track.Track.{Track}
 use Rattle.kinds.specs.declared.item.ContributionKind.TheVariants as kind
 use Rattle.spanned.specs.Rule.{most_size}
 use Rattle.spanned.specs.Sound.{TrackFits, most_of}
-use Rattle.lines.specs.declared.limit.Limit.{Limit}
-use Rattle.lines.specs.declared.limit.Limit.TheVariants.{None, UpTo}
+use Rattle.std.specs.Prelude.{Some, None}
 use Rattle.lines.specs.declared.line.Line.{Line}
 use Rattle.lines.specs.declared.measured.Measured.{Measured}
-use Rattle.lines.specs.Rule.{contribution_at, line, with_limit, cut, or_base, limit_size, start_base, start_limit, at_least, settled, start, maxima, limited, for_auto, base_asked, limit_with, limit_asked, with_item, with_item_at, singles, missing}
+use Rattle.lines.specs.Rule.{Limit, contribution_at, line, with_limit, cut, or_base, limit_size, start_base, start_limit, at_least, settled, start, maxima, limited, for_auto, base_asked, limit_with, limit_asked, with_item, with_item_at, singles, missing}
 use Rattle.lines.specs.Rows.{limit_number}
 use Rattle.lines.specs.Fits.{LineFits, LinesFit, MeasuredFits, MeasuredFit}
 
@@ -35,7 +34,7 @@ line-fits t base limit growable f b m = record { track = f; base = b; limit = m 
 
 pub at-least-le : (base k : ℕ) (limit : Limit) → base ≤ k → limit_number limit ≤ k → limit_number (at_least base limit) ≤ k
 at-least-le base k None b m = m
-at-least-le base k (UpTo n) b m = omega arith
+at-least-le base k (Some n) b m = omega arith
 
 pub settled-fits : (l : Line) → LineFits l → LineFits (settled l)
 settled-fits l f = record { track = f.track; base = f.base; limit = at-least-le l.base most_size l.limit f.base f.limit }
@@ -59,13 +58,13 @@ limit-size-le l f = go l.limit f.limit
   where
     go : (m : Limit) → limit_number m ≤ most_size → or_base m l.base ≤ most_size
     go None h = f.base
-    go (UpTo n) h = h
+    go (Some n) h = h
 
 -- ---- what an item asks
 
 cut-le : (limit : Limit) (n : ℕ) → cut limit n ≤ n
 cut-le None n = le_refl n
-cut-le (UpTo m) n = omega arith
+cut-le (Some m) n = omega arith
 
 pub limited-le : (n k : ℕ) (i : Measured) (ls : List Line) → contribution_at i kind.Minimum ≤ k → n ≤ k → limited n i ls ≤ k
 limited-le n k i ls h l = let c = cut-le (maxima ls) n in omega arith
@@ -83,7 +82,7 @@ base-asked-le c n i l minimum.MaxContent f = f.contributions kind.MaxContent
 
 limit-with-le : (n : ℕ) (limit : Limit) → n ≤ most_size → limit_number limit ≤ most_size → limit_number (limit_with n limit) ≤ most_size
 limit-with-le n None h k = h
-limit-with-le n (UpTo m) h k = omega arith
+limit-with-le n (Some m) h k = omega arith
 
 limit-asked-le : (n : ℕ) (i : Measured) (limit : Limit) (m : Maximum) → MeasuredFits n i → limit_number limit ≤ most_size → limit_number (limit_asked i limit m) ≤ most_size
 limit-asked-le n i limit (maximum.Fixed k) f h = h
@@ -129,4 +128,4 @@ module _ (c : Constraint) (n : ℕ) where
 -- 4. Missing limits
 pub missing-fit : (ls : List Line) → LinesFit ls → LinesFit (missing ls)
 unfolding missing
-missing-fit ls f = all-image LineFits (λ (l : Line). with_limit l (UpTo (limit_size l))) LineFits (λ l g. record { track = g.track; base = g.base; limit = limit-size-le l g }) ls f
+missing-fit ls f = all-image LineFits (λ (l : Line). with_limit l (Some (limit_size l))) LineFits (λ l g. record { track = g.track; base = g.base; limit = limit-size-le l g }) ls f

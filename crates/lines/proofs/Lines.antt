@@ -7,14 +7,13 @@ use lib.Dec.{eqb}
 use lib.ListN.{get_or}
 use Rattle.laws.specs.Marks.{bit}
 use Rattle.kinds.specs.Kinds.{Row, track_of}
-use Rattle.lines.specs.declared.limit.Limit.{Limit}
-use Rattle.lines.specs.declared.limit.Limit.TheVariants.{None, UpTo}
-use Rattle.lines.specs.Rule.{line}
+use Rattle.std.specs.Prelude.{Some, None}
+use Rattle.lines.specs.Rule.{Limit, line}
 use Rattle.lines.specs.Rows.{limit_of, limit_number, limit_tag, line_of}
 
 limit-of-told : (limit : Limit) → limit_of (limit_tag limit) (limit_number limit) ≡ limit
 limit-of-told None = refl
-limit-of-told (UpTo n) = refl
+limit-of-told (Some n) = refl
 
 eqb-bit : (mark : Bool) → eqb (bit mark) 1 ≡ mark
 eqb-bit true = refl

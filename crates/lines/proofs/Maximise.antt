@@ -16,10 +16,9 @@ use Rattle.rounds.proofs.Fresh.{gain-le-cap}
 use Rattle.kinds.specs.declared.constraint.Constraint.{Constraint}
 use Rattle.kinds.specs.declared.constraint.Constraint.TheVariants.{Definite, MinContent, MaxContent}
 use Rattle.spanned.specs.Rule.{most_size}
-use Rattle.lines.specs.declared.limit.Limit.{Limit}
-use Rattle.lines.specs.declared.limit.Limit.TheVariants.{None, UpTo}
+use Rattle.std.specs.Prelude.{Some, None}
 use Rattle.lines.specs.declared.line.Line.{Line}
-use Rattle.lines.specs.Rule.{is_none, cut_limit, room_to, limit_size, argument, with_base, with_limit, grown_base, maximise_track, filled_lines, missing, maximise}
+use Rattle.lines.specs.Rule.{Limit, is_none, cut_limit, room_to, limit_size, argument, with_base, with_limit, grown_base, maximise_track, filled_lines, missing, maximise}
 use Rattle.lines.specs.Rows.{limit_number}
 use Rattle.lines.specs.Fits.{LineFits, LinesFit}
 use Rattle.lines.proofs.Fits.{limit-size-le}
@@ -30,14 +29,14 @@ Limited = All (λ (l : Line). is_none l.limit ≡ false)
 
 pub missing-limited : (ls : List Line) → Limited (missing ls)
 unfolding missing
-missing-limited ls = image-all (λ (l : Line). is_none l.limit ≡ false) (λ (l : Line). with_limit l (UpTo (limit_size l))) (λ l. refl) ls
+missing-limited ls = image-all (λ (l : Line). is_none l.limit ≡ false) (λ (l : Line). with_limit l (Some (limit_size l))) (λ l. refl) ls
 
 -- the room of a base ends at the limit
 room-le : (dots base g : ℕ) (limit argument : Limit) → is_none limit ≡ false → base ≤ most_size → limit_number limit ≤ most_size
     → g ≤ cap_in dots (room_to (cut_limit limit argument) base) → base + g ≤ most_size
 room-le dots base g None a e b m h = never refl e
-room-le dots base g (UpTo n) None e b m h = omega arith
-room-le dots base g (UpTo n) (UpTo k) e b m h = omega arith
+room-le dots base g (Some n) None e b m h = omega arith
+room-le dots base g (Some n) (Some k) e b m h = omega arith
 
 -- before the first round
 pub maximise-fresh : (ls : List Line) → Fresh (map maximise_track ls)

@@ -4,10 +4,9 @@ use mathlib.Core.Bool.{Bool, true, false, ◌||◌}
 use mathlib.Core.List.{List, [], ◌∷◌}
 use Prim.Native.Nat.{ℕ}
 use native.Mathlib.Omega.{arith}
+use Rattle.std.specs.Prelude.{None, Some}
 use Rattle.laws.specs.Lists.{All, some, in_turn}
-use Rattle.kinds.specs.Kinds.{Row, item_of, amount_number, amount_at}
-use Rattle.kinds.specs.declared.amount.Amount.{Amount}
-use Rattle.kinds.specs.declared.amount.Amount.TheVariants.{Absent, Given}
+use Rattle.kinds.specs.Kinds.{Row, item_of, amount_number, amount_at, Amount}
 use Rattle.kinds.specs.declared.item.ContributionKind.TheVariants as kind
 use Rattle.kinds.specs.declared.item.Item.{Item}
 use Rattle.spanned.specs.Rule.{is_absent, lacks_contribution}
@@ -24,17 +23,17 @@ lacks a b c = is_absent a || (is_absent b || (is_absent c || false))
 
 module _ (start span : ℕ) where
   none-of-lacking : (a b c : Amount) → lacks a b c ≡ true → complete_of start span a b c ≡ []
-  none-of-lacking (Given x) (Given y) (Given z) e = let z : ◌≡◌ {A = ℕ} 0 1 = cc in absurd (omega arith)
-  none-of-lacking (Given x) (Given y) Absent e = refl
-  none-of-lacking (Given x) Absent c e = refl
-  none-of-lacking Absent b c e = refl
+  none-of-lacking (Some x) (Some y) (Some z) e = let z : ◌≡◌ {A = ℕ} 0 1 = cc in absurd (omega arith)
+  none-of-lacking (Some x) (Some y) None e = refl
+  none-of-lacking (Some x) None c e = refl
+  none-of-lacking None b c e = refl
 
   one-of-whole : (a b c : Amount) → lacks a b c ≡ false
       → complete_of start span a b c ≡ record { start = start; span = span; row = amount_number a ∷ amount_number b ∷ amount_number c ∷ [] } ∷ []
-  one-of-whole (Given x) (Given y) (Given z) e = refl
-  one-of-whole (Given x) (Given y) Absent e = let z : ◌≡◌ {A = ℕ} 0 1 = cc in absurd (omega arith)
-  one-of-whole (Given x) Absent c e = let z : ◌≡◌ {A = ℕ} 0 1 = cc in absurd (omega arith)
-  one-of-whole Absent b c e = let z : ◌≡◌ {A = ℕ} 0 1 = cc in absurd (omega arith)
+  one-of-whole (Some x) (Some y) (Some z) e = refl
+  one-of-whole (Some x) (Some y) None e = let z : ◌≡◌ {A = ℕ} 0 1 = cc in absurd (omega arith)
+  one-of-whole (Some x) None c e = let z : ◌≡◌ {A = ℕ} 0 1 = cc in absurd (omega arith)
+  one-of-whole None b c e = let z : ◌≡◌ {A = ℕ} 0 1 = cc in absurd (omega arith)
 
 module _ (i : Item) where
   pub complete-none : lacks_contribution i ≡ true → complete i ≡ []

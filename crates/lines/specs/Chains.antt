@@ -2,7 +2,7 @@
 -- batches by number, each from its head on.
 -- Assumes nothing.
 use Rattle.std.specs.Prelude.{◌≡◌, ℕ, zero, suc, ◌+◌, ◌<◌, cond, ltb, length, get_or}
-use mathlib.Core.List.{List, [], ◌∷◌, flat_map}
+use mathlib.Core.List.{List, [], ◌∷◌, map, flat_map}
 use Rattle.kinds.specs.Kinds.{Row, item_of}
 use Rattle.lines.specs.declared.measured.Measured.{Measured}
 use Rattle.lines.specs.Rule.{complete}
@@ -50,6 +50,10 @@ batches tracks = tracks + 3
 -- `heads` has the first item of each
 abbrev pub batch_at : List Row → (heads nexts : List ℕ) → ℕ → List Measured
 batch_at items heads nexts k = chained items nexts (get_or heads k 0)
+
+-- the batches in their order
+abbrev pub batches_of : List Row → (heads nexts : List ℕ) → List (List Measured)
+batches_of items heads nexts = map (chained items nexts) heads
 
 -- every batch but the first fits a board of n tracks
 pub record BatchesFit (n : ℕ) (items : List Row) (heads nexts : List ℕ) : Type 0 where

@@ -1,24 +1,20 @@
--- The rows of the working store, and the code's cases in the words of the rule. Assumes nothing.
-use Rattle.std.specs.Prelude.{ℕ, cond, List, map, eqb, get_or}
+-- The rows of the working store, in the words of the rule. Assumes nothing.
+use Rattle.std.specs.Prelude.{◌≡◌, ℕ, ◌<◌, cond, List, [], length, map, eqb, get_or, Some, None}
 use Rattle.rounds.specs.Rule.{Room, up_to, no_limit}
 use Rattle.kinds.specs.Kinds.{Row, track_of}
-use Rattle.lines.specs.declared.limit.Limit.{Limit}
-use Rattle.lines.specs.declared.limit.Limit.TheVariants.{None, UpTo}
 use Rattle.lines.specs.declared.line.Line.{Line}
-use Rattle.lines.specs.declared.passes.Pass.{Pass}
-use Rattle.lines.specs.declared.passes.Pass.TheVariants.{Settle, Missing, ToLimits}
-use Rattle.lines.specs.Rule.{line, limit_size, with_base, with_limit, settled}
+use Rattle.lines.specs.Rule.{Limit, line}
 
 abbrev pub limit_of : ℕ → ℕ → Limit
-limit_of limited n = cond (eqb limited 1) (UpTo n) None
+limit_of limited n = cond (eqb limited 1) (Some n) None
 
 abbrev pub limit_number : Limit → ℕ
 limit_number None = 0
-limit_number (UpTo n) = n
+limit_number (Some n) = n
 
 abbrev pub limit_tag : Limit → ℕ
 limit_tag None = 0
-limit_tag (UpTo n) = 1
+limit_tag (Some n) = 1
 
 -- the line that a row of eight numbers says
 abbrev pub line_of : Row → Line
@@ -30,10 +26,8 @@ lines_of rows = map line_of rows
 -- a limit read as a room
 abbrev pub room_of : Limit → Room
 room_of None = no_limit
-room_of (UpTo n) = up_to n
+room_of (Some n) = up_to n
 
--- what a pass makes of a line
-abbrev pub pass_of : Pass → Line → Line
-pass_of Settle l = settled l
-pass_of Missing l = with_limit l (UpTo (limit_size l))
-pass_of ToLimits l = with_base l (limit_size l)
+-- a step makes of each of these rows one that says what `made` makes of what it says
+abbrev pub Makes : (Row → Row → Type 0) → List Row → (Line → Line) → Type 0
+Makes step rows made = (i : ℕ) (row : Row) → i < length rows → step (get_or rows i []) row → line_of row ≡ made (line_of (get_or rows i []))

@@ -1,16 +1,14 @@
 -- Sizing in dots: steps 1 to 7 and the board they give. This page follows the build paper's 'Sizing in dots' paragraph by
 -- paragraph; the fill is the fill's own rule, and the share by factor and the fr search have their pages beside this one. It assumes
 -- nothing of the code and it computes. What the letters call kinds 1 to 6 are the sheet's tags.
-use Rattle.std.specs.Prelude.{ℕ, ◌+◌, ◌-◌, ◌*◌, ◌/◌, min, max, Bool, true, false, cond, not, ◌&&◌, ◌||◌, ltb, eqb, length, get_or, take, drop, replicate, ℤ}
+use Rattle.std.specs.Prelude.{ℕ, ◌+◌, ◌-◌, ◌*◌, ◌/◌, min, max, Bool, true, false, cond, not, ◌&&◌, ◌||◌, ltb, eqb, length, get_or, take, drop, replicate, ℤ, Option, Some, None}
 use mathlib.Core.List.{List, [], ◌∷◌, ◌++◌, map, zip_with, flat_map}
 use Rattle.std.proofs.Math.IntN.{sub_ℕ}
 use Rattle.laws.specs.Lists.{among, up_from, keep, some, every, change_at, in_turn, larger_from}
 use Rattle.laws.specs.Sums.{sum}
 use Rattle.rounds.specs.Rule.{Room, up_to, no_limit, Fill, fill, gains_of}
 use Rattle.rounds.specs.Rule as fill
-use Rattle.kinds.specs.Kinds.{minimum_tag, maximum_tag, maximum_number, kind_index, amount_at}
-use Rattle.kinds.specs.declared.amount.Amount.{Amount}
-use Rattle.kinds.specs.declared.amount.Amount.TheVariants.{Absent, Given}
+use Rattle.kinds.specs.Kinds.{minimum_tag, maximum_tag, maximum_number, kind_index, amount_at, Amount}
 use Rattle.kinds.specs.declared.constraint.Constraint.{Constraint}
 use Rattle.kinds.specs.declared.constraint.Constraint.TheVariants.{Definite, MinContent, MaxContent}
 use Rattle.kinds.specs.declared.track.Minimum.{Minimum}
@@ -22,8 +20,6 @@ use Rattle.kinds.specs.declared.item.ContributionKind.{ContributionKind}
 use Rattle.kinds.specs.declared.item.ContributionKind.TheVariants as kind
 use Rattle.kinds.specs.declared.item.Item.{Item}
 use Rattle.spanned.specs.Rule.{is_fr, is_measured}
-use Rattle.lines.specs.declared.limit.Limit.{Limit}
-use Rattle.lines.specs.declared.limit.Limit.TheVariants.{None, UpTo}
 use Rattle.lines.specs.declared.line.Line.{Line}
 use Rattle.lines.specs.declared.measured.Measured.{Measured}
 use Rattle.lines.specs.declared.fr.Fr.{Fr}
@@ -31,6 +27,10 @@ use Rattle.lines.specs.ByFactor.{share_by_factor}
 use Rattle.lines.specs.Fr.{fr_of, no_fr, larger_fr, Flex, search}
 
 -- ---- Lines: a track at work has a base size and a growth limit, and its limit may be infinitely growable
+
+-- a growth limit is so many dots, or none, which is a case of its own and no number
+abbrev pub Limit : Type 0
+Limit = Option ℕ
 
 abbrev pub line : Track → ℕ → Limit → Bool → Line
 line track base limit growable = record { track = track; base = base; limit = limit; growable = growable }
@@ -58,7 +58,7 @@ argument_of (maximum.Fixed n) = None
 argument_of maximum.Auto = None
 argument_of maximum.MinContent = None
 argument_of maximum.MaxContent = None
-argument_of (maximum.FitContent n) = UpTo n
+argument_of (maximum.FitContent n) = Some n
 argument_of (maximum.Fr n) = None
 
 abbrev pub argument : Line → Limit
@@ -66,26 +66,26 @@ argument l = argument_of l.track.maximum
 
 abbrev pub is_none : Limit → Bool
 is_none None = true
-is_none (UpTo n) = false
+is_none (Some n) = false
 
 -- a size cut to a limit, and a limit cut to another
 abbrev pub cut : Limit → ℕ → ℕ
 cut None n = n
-cut (UpTo m) n = min m n
+cut (Some m) n = min m n
 
 abbrev pub cut_limit : Limit → Limit → Limit
 cut_limit limit None = limit
-cut_limit limit (UpTo n) = UpTo (cut limit n)
+cut_limit limit (Some n) = Some (cut limit n)
 
 -- the room from a size up to a limit, at least 0
 abbrev pub room_to : Limit → ℕ → Room
 room_to None size = no_limit
-room_to (UpTo n) size = up_to (n - size)
+room_to (Some n) size = up_to (n - size)
 
 -- a limit as a size: none counts as base
 abbrev pub or_base : Limit → ℕ → ℕ
 or_base None base = base
-or_base (UpTo n) base = n
+or_base (Some n) base = n
 
 abbrev pub limit_size : Line → ℕ
 limit_size l = or_base l.limit l.base
@@ -100,10 +100,10 @@ abbrev pub contribution_at : Measured → ContributionKind → ℕ
 contribution_at i k = get_or i.row (kind_index k) 0
 
 abbrev pub complete_of : ℕ → ℕ → Amount → Amount → Amount → List Measured
-complete_of start span (Given a) (Given b) (Given c) = record { start = start; span = span; row = a ∷ b ∷ c ∷ [] } ∷ []
-complete_of start span (Given a) (Given b) Absent = []
-complete_of start span (Given a) Absent third = []
-complete_of start span Absent second third = []
+complete_of start span (Some a) (Some b) (Some c) = record { start = start; span = span; row = a ∷ b ∷ c ∷ [] } ∷ []
+complete_of start span (Some a) (Some b) None = []
+complete_of start span (Some a) None third = []
+complete_of start span None second third = []
 
 abbrev pub complete : Item → List Measured
 complete i = complete_of i.start i.span (amount_at i kind.Minimum) (amount_at i kind.MinContent) (amount_at i kind.MaxContent)
@@ -127,7 +127,7 @@ start_base minimum.MinContent = 0
 start_base minimum.MaxContent = 0
 
 abbrev pub start_limit : Maximum → Limit
-start_limit (maximum.Fixed n) = UpTo n
+start_limit (maximum.Fixed n) = Some n
 start_limit maximum.Auto = None
 start_limit maximum.MinContent = None
 start_limit maximum.MaxContent = None
@@ -137,7 +137,7 @@ start_limit (maximum.Fr n) = None
 -- a limit below base becomes base
 abbrev pub at_least : ℕ → Limit → Limit
 at_least base None = None
-at_least base (UpTo n) = UpTo (max base n)
+at_least base (Some n) = Some (max base n)
 
 abbrev pub settled : Line → Line
 settled l = with_limit l (at_least l.base l.limit)
@@ -152,7 +152,7 @@ start ts = map start_line ts
 
 -- the sum of the spanned maxima when all are fixed or fit-content
 abbrev pub maxima : List Line → Limit
-maxima ls = cond (every (max_in (1 ∷ 5 ∷ [])) ls) (UpTo (sum (map number ls))) None
+maxima ls = cond (every (max_in (1 ∷ 5 ∷ [])) ls) (Some (sum (map number ls))) None
 
 -- limited: cut to that sum, then raised to the minimum contribution
 abbrev pub limited : ℕ → Measured → List Line → ℕ
@@ -173,8 +173,8 @@ base_asked c i l minimum.MaxContent = contribution_at i kind.MaxContent
 
 -- the larger of a limit and a number; none gives way
 abbrev pub limit_with : ℕ → Limit → Limit
-limit_with n None = UpTo n
-limit_with n (UpTo m) = UpTo (max n m)
+limit_with n None = Some n
+limit_with n (Some m) = Some (max n m)
 
 -- what an item makes of its track's limit, by maximum kind
 abbrev pub limit_asked : Measured → Limit → Maximum → Limit
@@ -238,8 +238,8 @@ limit_room l = cond (is_none l.limit || l.growable) (room_to (argument l) (limit
 
 -- a limit of none becomes base plus increase if the increase is above 0
 abbrev pub limit_plus : ℕ → ℕ → Limit → Limit
-limit_plus base increase None = cond (ltb 0 increase) (UpTo (base + increase)) None
-limit_plus base increase (UpTo n) = UpTo (n + increase)
+limit_plus base increase None = cond (ltb 0 increase) (Some (base + increase)) None
+limit_plus base increase (Some n) = Some (n + increase)
 
 -- where the letter marks, a limit that went from none to a number is infinitely growable
 abbrev pub grown_limit : Bool → Line → ℕ → Line
@@ -368,7 +368,7 @@ last_batch c ts is ls = batched shares_by_factor (base_letters c) c (keep (on_fr
 -- ---- 4. Missing limits become base
 
 unfoldable pub missing : List Line → List Line
-missing ls = map (λ (l : Line). with_limit l (UpTo (limit_size l))) ls
+missing ls = map (λ (l : Line). with_limit l (Some (limit_size l))) ls
 
 -- steps 1 to 4
 unfoldable pub content : Constraint → List Track → List Measured → List Line

@@ -3,16 +3,16 @@
 ghost use Rattle.std.specs.Prelude.{◌≡◌};
 ghost use Rattle.kinds.specs.Kinds.{track_of};
 ghost use Rattle.lines.specs.Rule.{line, argument, limit_size, base_room, start_base, start_limit, start_line};
-ghost use Rattle.lines.specs.Rows.{line_of, limit_number, limit_tag, room_of};
+ghost use Rattle.lines.specs.Rows.{line_of, room_of};
 
-use crate::limit::Limit;
-use kinds::{Maximum, Minimum, Track, bit};
+use crate::limit::cut_limit;
+use kinds::{Maximum, Minimum, Track};
 
 #[derive(Clone, Copy)]
 pub struct Line {
     pub track: Track,
     pub base: u32,
-    pub limit: Limit,
+    pub limit: Option<u32>,
     pub growable: bool,
 }
 
@@ -20,12 +20,10 @@ impl Line {
     pub fn of_row(row: [u32; 8]) -> Line
         ensures { result ≡ line_of row }
     {
-        let track = Track::of_row([row[0], row[1], row[2], row[3]]);
-        let limit = Limit::of(row[6], row[5]);
         Line {
-            track,
+            track: Track::of_row([row[0], row[1], row[2], row[3]]),
             base: row[4],
-            limit,
+            limit: (row[6] == 1).then_some(row[5]),
             growable: row[7] == 1,
         }
     }
@@ -34,62 +32,35 @@ impl Line {
     pub fn limit_size(self) -> u32
         ensures { result ≡ limit_size self }
     {
-        let limit = self.limit;
-        limit.or_base(self.base)
+        self.limit.unwrap_or(self.base)
     }
 
     // The argument of a fit-content maximum.
-    pub fn argument(self) -> Limit
+    pub fn argument(self) -> Option<u32>
         ensures { result ≡ argument self }
     {
-        let track = self.track;
-        let maximum = track.maximum;
-        match maximum {
-            Maximum::Fixed(_) => Limit::None,
-            Maximum::Auto => Limit::None,
-            Maximum::MinContent => Limit::None,
-            Maximum::MaxContent => Limit::None,
-            Maximum::FitContent(n) => Limit::UpTo(n),
-            Maximum::Fr(_) => Limit::None,
+        match self.track.maximum {
+            Maximum::FitContent(n) => Some(n),
+            _ => None,
         }
     }
 
     // Up to the growth limit, cut to a fit-content argument.
-    pub fn base_room(self) -> Limit
+    pub fn base_room(self) -> Option<u32>
         ensures { room_of result ≡ base_room self }
     {
-        let limit = self.limit;
-        let argument = self.argument();
-        let most = limit.cut_limit(argument);
-        most.room_from(self.base)
-    }
-}
-
-fn limit_number(limit: Limit) -> u32
-    ensures { result ≡ limit_number limit }
-{
-    match limit {
-        Limit::None => 0,
-        Limit::UpTo(n) => n,
-    }
-}
-
-fn limit_tag(limit: Limit) -> u32
-    ensures { result ≡ limit_tag limit }
-{
-    match limit {
-        Limit::None => 0,
-        Limit::UpTo(_) => 1,
+        let most = cut_limit(self.limit, self.argument());
+        most.map(|n| n.saturating_sub(self.base))
     }
 }
 
 // The row with another base, limit and mark; the kinds stay.
-pub fn with_sizes(row: [u32; 8], base: u32, limit: Limit, growable: bool) -> [u32; 8]
+pub fn with_sizes(row: [u32; 8], base: u32, limit: Option<u32>, growable: bool) -> [u32; 8]
     ensures { line_of result ≡ line (line_of row).track base limit growable }
 {
-    let number = limit_number(limit);
-    let tag = limit_tag(limit);
-    let mark = bit(growable);
+    let number = limit.unwrap_or(0);
+    let tag = u32::from(limit.is_some());
+    let mark = u32::from(growable);
     [row[0], row[1], row[2], row[3], base, number, tag, mark]
 }
 
@@ -99,12 +70,11 @@ pub(crate) fn start_row(row: [u32; 4]) -> [u32; 8]
 {
     let track = Track::of_row(row);
     let base = start_base(track);
-    let limit = start_limit(track);
-    let settled = limit.at_least(base);
+    let limit = start_limit(track).map(|n| base.max(n));
     with_sizes(
         [row[0], row[1], row[2], row[3], 0, 0, 0, 0],
         base,
-        settled,
+        limit,
         false,
     )
 }
@@ -112,25 +82,17 @@ pub(crate) fn start_row(row: [u32; 4]) -> [u32; 8]
 fn start_base(track: Track) -> u32
     ensures { result ≡ start_base track.minimum }
 {
-    let minimum = track.minimum;
-    match minimum {
+    match track.minimum {
         Minimum::Fixed(n) => n,
-        Minimum::Auto => 0,
-        Minimum::MinContent => 0,
-        Minimum::MaxContent => 0,
+        _ => 0,
     }
 }
 
-fn start_limit(track: Track) -> Limit
+fn start_limit(track: Track) -> Option<u32>
     ensures { result ≡ start_limit track.maximum }
 {
-    let maximum = track.maximum;
-    match maximum {
-        Maximum::Fixed(n) => Limit::UpTo(n),
-        Maximum::Auto => Limit::None,
-        Maximum::MinContent => Limit::None,
-        Maximum::MaxContent => Limit::None,
-        Maximum::FitContent(_) => Limit::None,
-        Maximum::Fr(_) => Limit::None,
+    match track.maximum {
+        Maximum::Fixed(n) => Some(n),
+        _ => None,
     }
 }

@@ -5,7 +5,7 @@ ghost use Rattle.spanned.specs.Rule.{lacks_contribution};
 ghost use Rattle.lines.specs.Rule.{contribution_at};
 ghost use Rattle.lines.specs.Parts.{measured_of};
 
-use kinds::{ContributionKind, Item};
+use kinds::{ContributionKind, Item, amount};
 
 #[derive(Clone, Copy)]
 pub struct Measured {
@@ -26,7 +26,11 @@ impl Measured {
         Measured {
             start: item.start,
             span: item.span,
-            row: [minimum.number(), min_content.number(), max_content.number()],
+            row: [
+                amount::number(minimum),
+                amount::number(min_content),
+                amount::number(max_content),
+            ],
         }
     }
 
@@ -34,8 +38,6 @@ impl Measured {
     pub fn at(self, kind: ContributionKind) -> u32
         ensures { result ≡ contribution_at self kind }
     {
-        let row = self.row;
-        let i = kind.index();
-        row[i]
+        self.row[kind.index()]
     }
 }

@@ -1,7 +1,7 @@
 -- The build paper's marked examples, W1 to W12: one table, whose claim the checker computes (proofs/Marked.antt). Assumes nothing: each row
 -- is held against the published rules of the fill, of the sizing as a layout hands it its space and tracks, and of the board as
 -- called with bytes.
-use Rattle.std.specs.Prelude.{ℕ, Bool, true, false, ◌&&◌, eqb, ℤ, pos, negsuc}
+use Rattle.std.specs.Prelude.{ℕ, Bool, true, false, ◌&&◌, eqb, ℤ, pos, negsuc, Some}
 use mathlib.Core.List.{List, [], ◌∷◌, ◌++◌, flat_map, zip_with}
 use Rattle.laws.specs.Marks.{number}
 use Rattle.laws.specs.Runs.{runs}
@@ -13,7 +13,6 @@ use Rattle.checks.specs.Rule.{lowest, first_of, record_fault}
 use Rattle.layout.specs.Rule.{BoardTold, BoardOutcome, layout_sizes, layout_call}
 use Rattle.board.specs.Rule.{board_call}
 use Rattle.kinds.specs.Kinds as kinds
-use Rattle.kinds.specs.declared.amount.Amount.TheVariants.{Given}
 use Rattle.kinds.specs.declared.constraint.Constraint.TheVariants.{Definite}
 use Rattle.sheet_kinds.specs.declared.axis.Axis.TheVariants.{Inline}
 use Rattle.sheet_kinds.specs.declared.space.Space.{Space}
@@ -38,7 +37,7 @@ idle room = record { affected = false; room = room; gain = 0 }
 
 -- definite 100 with inner size 100, in the inline axis
 abbrev pub hundred : Bool → Space
-hundred stretch = sheet.space (Definite 100) (Given 100) stretch Inline
+hundred stretch = sheet.space (Definite 100) (Some 100) stretch Inline
 
 -- an fr track with this base, its factor in thousandths
 abbrev pub fr_track : ℕ → ℕ → SheetTrack
@@ -49,7 +48,7 @@ auto_track = sheet.sheet_track minimum.Auto maximum.Auto
 
 -- across both of two tracks
 abbrev pub across : ℕ → ℕ → ℕ → Item
-across a b c = kinds.item 0 2 (kinds.contribution (Given a) ∷ kinds.contribution (Given b) ∷ kinds.contribution (Given c) ∷ [])
+across a b c = kinds.item 0 2 (Some a ∷ Some b ∷ Some c ∷ [])
 
 -- A row: a fill's dots and tracks, then the gains, the leftover and the rounds that the paper marks; or a board, then its
 -- bases and its limits, the free space and the rounds; or a sheet's bytes, then the same.

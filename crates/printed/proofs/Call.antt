@@ -10,8 +10,9 @@ use Rattle.rounds.specs.Rule.{most_tracks}
 use Rattle.kinds.specs.Kinds.{Row}
 use Rattle.board.specs.Rule.{board_call}
 use Rattle.board.specs.Answer.{board_told, board_leaves}
-use Rattle.board.specs.declared.BoardAnswer.{BoardAnswer}
-use Rattle.board.specs.declared.BoardAnswer.TheVariants as answer
+use Rattle.std.specs.Prelude.{Result, Ok, Err}
+use Rattle.layout.specs.declared.Board.{Board}
+use Rattle.board.specs.declared.refusal.Refusal.{Refusal}
 use Rattle.board.proofs.Tracks.{tracks-few}
 use Rattle.printed.specs.Rule.{answer_text, outcome_text, own_sizes, sheet_text, no_room, printed, print_outcome, most_text, print_call}
 use Rattle.printed.specs.Answer.{TracksWithin}
@@ -21,14 +22,14 @@ pub call-no-room : (bytes lent : List ℕ) → length lent < most_text → print
 unfolding print_call
 call-no-room bytes lent h = rw (lt-ltb (length lent) most_text h)
 
-module _ (bytes : List ℕ) (a : BoardAnswer) (left : List Row) (kept : board_leaves a left ≡ board_call bytes own_sizes) where
+module _ (bytes : List ℕ) (a : Result Board Refusal) (left : List Row) (kept : board_leaves a left ≡ board_call bytes own_sizes) where
   -- the tracks of a board have sizes
   pub tracks-within : length left ≡ most_tracks → TracksWithin (board_told a) left
   tracks-within n = go a refl
     where
-      go : (b : BoardAnswer) → a ≡ b → TracksWithin (board_told b) left
-      go (answer.Board tracks free rounds) e = rw n (tracks-few bytes own_sizes a left tracks free rounds kept e)
-      go (answer.Refused refusal) e = tt
+      go : (b : Result Board Refusal) → a ≡ b → TracksWithin (board_told b) left
+      go (Ok b) e = rw n (tracks-few bytes own_sizes a left b kept e)
+      go (Err refusal) e = tt
 
   text-is : answer_text (board_told a) left ≡ sheet_text bytes
   text-is = ap outcome_text kept

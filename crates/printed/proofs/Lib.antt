@@ -2,14 +2,13 @@
 
 -- pieces one behind another
 pub mod Joined
--- a number's digits, and an i32 without its sign
+-- a number's digits, and its sign
 pub mod Decimal
-pub mod Magnitude
 pub mod Signed
 -- a name in a message
 pub mod Shown
 pub mod Visible
--- a turn of each loop
+-- a turn of the loop over the tracks
 pub mod Turns
 -- the call as a whole
 pub mod Call

@@ -9,8 +9,7 @@ use lib.ListN.{length, length-append}
 use Rattle.sheet.specs.Rule.{onto}
 use Rattle.printed.specs.Rule.{PrintTold, printed, no_room, PrintOutcome, print_outcome, sheet_text, most_text, print_call, message_text, fits_message, message_call}
 use Rattle.printed.specs.Answer.{print_leaves}
-use Rattle.printed.specs.declared.PrintAnswer.{PrintAnswer}
-use Rattle.printed.specs.declared.PrintAnswer.TheVariants.{Printed}
+use Rattle.std.specs.Prelude.{Option, Some}
 
 abbrev length_told : PrintTold → ℕ
 length_told (printed n) = n
@@ -34,10 +33,10 @@ fits-or-refused : (b : Bool) (text lent : List ℕ) → Fitting (cond b (print_o
 fits-or-refused true text lent = text-fits text lent
 fits-or-refused false text lent = none-fits lent
 
-module _ (a : PrintAnswer) (n : ℕ) (after : List ℕ) (is : a ≡ Printed n) where
+module _ (a : Option ℕ) (n : ℕ) (after : List ℕ) (is : a ≡ Some n) where
   fits_told : (o : PrintOutcome) → print_leaves a after ≡ o → Fitting o → n ≤ length after
   fits_told o e x =
-      let told : length_told o.told ≡ n = ap (λ (q : PrintOutcome). length_told q.told) (sym e) ∙ ap (λ (b : PrintAnswer). length_told (print_leaves b after).told) is in
+      let told : length_told o.told ≡ n = ap (λ (q : PrintOutcome). length_told q.told) (sym e) ∙ ap (λ (b : Option ℕ). length_told (print_leaves b after).told) is in
       let bytes : length o.bytes ≡ length after = ap (λ (q : PrintOutcome). length q.bytes) (sym e) in
       omega arith
 

@@ -7,28 +7,28 @@ ghost use Rattle.printed.specs.Putting.{Putting};
 ghost use Rattle.printed.specs.Answer.{TracksWithin};
 
 use crate::put::{put_cell, put_number, put_signed, put_word};
-use board::{BoardAnswer, Free};
+use board::{Board, Refusal};
 
-fn put_free(at: usize, free: Free, into: &mut [u8]) -> usize
+fn put_free(at: usize, free: Option<i32>, into: &mut [u8]) -> usize
     requires { at + most_cell ≤ length into.old }
     ensures { Putting most_cell at (free_text (free_told free)) into.old into.new result }
 {
     match free {
-        Free::None => put_word(at, b"none", into),
-        Free::Dots(dots) => put_signed(at, dots, into),
+        Some(dots) => put_signed(at, dots, into),
+        None => put_word(at, b"none", into),
     }
 }
 
-fn put_board_line(tracks: usize, free: Free, rounds: u32, into: &mut [u8]) -> usize
+fn put_board_line(board: Board, into: &mut [u8]) -> usize
     requires { most_board_line ≤ length into.old }
-    ensures { Putting most_board_line 0 (board_line tracks (free_told free) rounds) into.old into.new result }
+    ensures { Putting most_board_line 0 (board_line board.tracks (free_told board.free) board.rounds) into.old into.new result }
 {
     let behind_word = put_word(0, b"tracks ", into);
-    let behind_tracks = put_number(behind_word, tracks as u64, into);
+    let behind_tracks = put_number(behind_word, board.tracks as u64, into);
     let before_free = put_word(behind_tracks, b" free ", into);
-    let behind_free = put_free(before_free, free, into);
+    let behind_free = put_free(before_free, board.free, into);
     let before_rounds = put_word(behind_free, b" rounds ", into);
-    put_cell(before_rounds, rounds as u64, b'\n', into)
+    put_cell(before_rounds, board.rounds as u64, b'\n', into)
 }
 
 fn put_track_line(at: usize, t: usize, sizes: [u32; 2], into: &mut [u8]) -> usize
@@ -45,20 +45,18 @@ fn put_track_lines(at: usize, tracks: usize, sizes: &[[u32; 2]], into: &mut [u8]
     ensures { Putting (most_track_line * tracks) at (track_lines 0 (take tracks sizes.now)) into.old into.new result }
 {
     let mut next = at;
-    let mut t = 0;
-    while t < tracks {
+    for t in 0..tracks {
         next = put_track_line(next, t, sizes[t], into);
-        t += 1;
     }
     next
 }
 
-fn put_board(tracks: usize, free: Free, rounds: u32, sizes: &[[u32; 2]], into: &mut [u8]) -> usize
-    requires { (tracks ≤ length sizes.now) × (most_board_line + most_track_line * tracks ≤ length into.old) }
-    ensures { Putting (most_board_line + most_track_line * tracks) 0 (board_line tracks (free_told free) rounds ++ track_lines 0 (take tracks sizes.now)) into.old into.new result }
+fn put_board(board: Board, sizes: &[[u32; 2]], into: &mut [u8]) -> usize
+    requires { (board.tracks ≤ length sizes.now) × (most_board_line + most_track_line * board.tracks ≤ length into.old) }
+    ensures { Putting (most_board_line + most_track_line * board.tracks) 0 (board_line board.tracks (free_told board.free) board.rounds ++ track_lines 0 (take board.tracks sizes.now)) into.old into.new result }
 {
-    let behind_line = put_board_line(tracks, free, rounds, into);
-    put_track_lines(behind_line, tracks, sizes, into)
+    let behind_line = put_board_line(board, into);
+    put_track_lines(behind_line, board.tracks, sizes, into)
 }
 
 fn put_refusal(number: u32, place: usize, into: &mut [u8]) -> usize
@@ -72,16 +70,12 @@ fn put_refusal(number: u32, place: usize, into: &mut [u8]) -> usize
 }
 
 // The tracks' sizes are the first of those that are handed over.
-pub fn put_answer(answer: BoardAnswer, sizes: &[[u32; 2]], into: &mut [u8]) -> usize
+pub fn put_answer(answer: Result<Board, Refusal>, sizes: &[[u32; 2]], into: &mut [u8]) -> usize
     requires { TracksWithin (board_told answer) sizes.now × (most_board_line + most_track_line * length sizes.now ≤ length into.old) }
     ensures { Putting (most_board_line + most_track_line * length sizes.now) 0 (answer_text (board_told answer) sizes.now) into.old into.new result }
 {
     match answer {
-        BoardAnswer::Board {
-            tracks,
-            free,
-            rounds,
-        } => put_board(tracks, free, rounds, sizes, into),
-        BoardAnswer::Refused(refusal) => put_refusal(refusal.number(), refusal.place(), into),
+        Ok(board) => put_board(board, sizes, into),
+        Err(refusal) => put_refusal(refusal.number(), refusal.place(), into),
     }
 }

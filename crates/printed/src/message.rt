@@ -5,7 +5,6 @@ ghost use Rattle.printed.specs.Rule.{most_frame, is_plain, hex_digit, shown, mes
 ghost use Rattle.printed.specs.Putting.{Putting};
 ghost use Rattle.printed.specs.Answer.{print_leaves};
 
-use crate::PrintAnswer;
 use crate::put::put_word;
 
 // The reader's own name and two quotes, around the rest.
@@ -21,26 +20,14 @@ pub const MOST_MESSAGE: usize = MOST_FRAME + 4 * MOST_NAME + MOST_WORDS;
 fn is_plain(byte: u8) -> bool
     ensures { result ≡ is_plain byte }
 {
-    if byte < 32 {
-        return false;
-    }
-    if byte == 127 {
-        return false;
-    }
-    if byte == b'\'' {
-        return false;
-    }
-    byte != b'\\'
+    byte >= 32 && byte != 127 && byte != b'\'' && byte != b'\\'
 }
 
 fn hex_digit(d: u8) -> u8
     requires { d < 16 }
     ensures { result ≡ hex_digit d }
 {
-    if d < 10 {
-        return 48 + d;
-    }
-    87 + d
+    if d < 10 { 48 + d } else { 87 + d }
 }
 
 // A byte of a name, so that it breaks no line and ends no quote.
@@ -61,10 +48,8 @@ fn put_name(at: usize, name: &[u8], into: &mut [u8]) -> usize
     ensures { Putting (4 * length name.now) at (flat_map shown name.now) into.old into.new result }
 {
     let mut next = at;
-    let mut i = 0;
-    while i < name.len() {
-        next = put_shown(next, name[i], into);
-        i += 1;
+    for byte in name {
+        next = put_shown(next, *byte, into);
     }
     next
 }
@@ -79,18 +64,13 @@ fn put_message(name: &[u8], words: &[u8], into: &mut [u8]) -> usize
     put_word(closed, words, into)
 }
 
-pub fn print_message(name: &[u8], words: &[u8], into: &mut [u8]) -> PrintAnswer
+// The text is the first so many bytes. Where fewer are lent than a message may take, or its name or words are too long, there is no text, and
+// the lent bytes keep what they hold.
+pub fn print_message(name: &[u8], words: &[u8], into: &mut [u8]) -> Option<usize>
     ensures { print_leaves result into.new ≡ message_call name.now words.now into.old }
 {
-    if name.len() > MOST_NAME {
-        return PrintAnswer::NoRoom;
+    if name.len() > MOST_NAME || words.len() > MOST_WORDS || into.len() < MOST_MESSAGE {
+        return None;
     }
-    if words.len() > MOST_WORDS {
-        return PrintAnswer::NoRoom;
-    }
-    if into.len() < MOST_MESSAGE {
-        return PrintAnswer::NoRoom;
-    }
-    let length = put_message(name, words, into);
-    PrintAnswer::Printed { length }
+    Some(put_message(name, words, into))
 }

@@ -8,49 +8,42 @@ mod words;
 
 ghost use Rattle.io.specs.Counts.{IsPrefixLen};
 
-use printed::{MOST_MESSAGE, MOST_TEXT, PrintAnswer};
+use input::End;
+use printed::{MOST_MESSAGE, MOST_TEXT};
 use std::env::{Env, FillError};
 use std::fs::File;
 use std::io::{Error, Read};
 use words::Word;
 
-// How a word of the command line leaves things: whether `--` is behind us, whether a sheet was answered for, and whether to go on.
+// Standard output did not take all of an answer. It has been told, and no other answer follows.
 #[derive(Clone, Copy)]
-struct Step {
-    is_past: bool,
-    is_sheet: bool,
-    goes_on: bool,
-}
+struct Untaken;
 
-fn print_help(rt: &HostRuntime) -> bool {
+fn print_help(rt: &HostRuntime) -> Result<(), Untaken> {
     write_out(
         rt,
         b"usage: reader [SHEET]...\n\nSizes each sheet and prints its board: the tracks, the free space and the rounds, then for each\ntrack its number, base size and growth limit; or one line, 'refused NUMBER at PLACE'. With no\nSHEET, or where it is -, the sheet is read from standard input.\n\n  --      only names of sheets follow\n  --help  prints this\n",
     )
 }
 
-// To standard error, and whether all of it was taken.
-fn write_error(rt: &HostRuntime, text: &[u8]) -> bool {
-    rt.stderr().write_all(text).is_ok()
+// To standard error. What that does not take is told nowhere.
+fn write_error(rt: &HostRuntime, text: &[u8]) {
+    rt.stderr().write_all(text).ok();
 }
 
-// A line about a name: the name in quotes, and the words behind it.
-fn say(rt: &HostRuntime, name: &[u8], words: &[u8]) -> bool {
+// A line about a name: the name in quotes, and the words behind it. Its memory is fixed, so that it is told where a heap is full too.
+fn say(rt: &HostRuntime, name: &[u8], words: &[u8]) {
     let mut text = [0u8; MOST_MESSAGE];
-    let made = printed::print_message(name, words, &mut text);
-    match made {
-        PrintAnswer::Printed { length } => write_error(rt, &text[..length]),
-        PrintAnswer::NoRoom => false,
+    if let Some(length) = printed::print_message(name, words, &mut text) {
+        write_error(rt, &text[..length]);
     }
 }
 
 // The same with the reason of a call that failed.
 fn say_failure(rt: &HostRuntime, name: &[u8], error: Error) {
     let mut text = [0u8; MOST_MESSAGE];
-    let made = printed::print_message(name, b"", &mut text);
-    match made {
-        PrintAnswer::Printed { length } => say_reason(rt, &text[..length], error),
-        PrintAnswer::NoRoom => (),
+    if let Some(length) = printed::print_message(name, b"", &mut text) {
+        say_reason(rt, &text[..length], error);
     }
 }
 
@@ -69,96 +62,55 @@ fn write_reason(rt: &HostRuntime, what: &[u8], words: &[u8]) {
     write_error(rt, b"\n");
 }
 
-// Writes an answer out, and says whether all of it was taken. What was not is told on standard error.
-fn write_out(rt: &HostRuntime, text: &[u8]) -> bool {
-    match rt.stdout().write_all(text) {
-        Ok(()) => true,
-        Err(error) => {
-            say_reason(rt, b"reader: standard output", error);
-            false
-        }
+// Writes an answer out. What was not taken is told on standard error.
+fn write_out(rt: &HostRuntime, text: &[u8]) -> Result<(), Untaken> {
+    if let Err(error) = rt.stdout().write_all(text) {
+        say_reason(rt, b"reader: standard output", error);
+        return Err(Untaken);
     }
+    Ok(())
 }
 
-fn answer(rt: &HostRuntime, sheet: &[u8]) -> bool {
+// The text is made in fixed memory, so that no answer waits for a heap.
+fn answer(rt: &HostRuntime, sheet: &[u8]) -> Result<(), Untaken> {
     let mut text = [0u8; MOST_TEXT];
-    let made = printed::print_sheet(sheet, &mut text);
-    match made {
-        PrintAnswer::Printed { length } => write_out(rt, &text[..length]),
+    match printed::print_sheet(sheet, &mut text) {
+        Some(length) => write_out(rt, &text[..length]),
         // Never: as many bytes are lent as any text takes.
-        PrintAnswer::NoRoom => false,
+        None => Err(Untaken),
     }
 }
 
 // The answer for one input. A sheet that cannot be read is told, and the next one has its turn.
-fn answer_from<R: Read>(rt: &HostRuntime, from: &mut R, name: &[u8]) -> bool {
+fn answer_from<R: Read>(rt: &HostRuntime, from: &mut R, name: &[u8]) -> Result<(), Untaken> {
     let mut sheet = store::buffer();
     let read = input::read_from(from, &mut sheet);
     let length = read.length;
-    if read.is_whole {
-        return answer(rt, &sheet[..length]);
+    match read.end {
+        End::Whole => return answer(rt, &sheet[..length]),
+        End::Failed(error) => say_failure(rt, name, error),
+        End::GoneOn => say(rt, name, b": the input went on behind its end\n"),
     }
-    match read.error {
-        Some(error) => say_failure(rt, name, error),
-        None => {
-            say(rt, name, b": the input went on behind its end\n");
-        }
-    }
-    true
+    Ok(())
 }
 
-fn answer_input(rt: &HostRuntime, name: &[u8]) -> bool {
+fn answer_input(rt: &HostRuntime, name: &[u8]) -> Result<(), Untaken> {
     let mut stdin = rt.stdin();
     answer_from(rt, &mut stdin, name)
 }
 
 // The system takes a name of any bytes, and std's calls one that is text.
-fn answer_file(rt: &HostRuntime, name: &[u8]) -> bool {
+fn answer_file(rt: &HostRuntime, name: &[u8]) -> Result<(), Untaken> {
     let Ok(path) = std::str::from_utf8(name) else {
         say(rt, name, b": the name is not UTF-8\n");
-        return true;
+        return Ok(());
     };
     match File::open(rt, path) {
         Ok(mut file) => answer_from(rt, &mut file, name),
         Err(error) => {
             say_failure(rt, name, error);
-            true
+            Ok(())
         }
-    }
-}
-
-// A word that names a sheet, behind `--` or before it.
-fn answer_sheet(rt: &HostRuntime, name: &[u8], is_past: bool) -> Step {
-    let goes_on = answer_file(rt, name);
-    Step {
-        is_past,
-        is_sheet: true,
-        goes_on,
-    }
-}
-
-// Help and options were looked at before: what still begins with a dash is a name.
-fn answer_word(rt: &HostRuntime, word: &[u8], is_past: bool) -> Step {
-    if is_past {
-        return answer_sheet(rt, word, is_past);
-    }
-    match words::word_of(word) {
-        Word::Past => Step {
-            is_past: true,
-            is_sheet: false,
-            goes_on: true,
-        },
-        Word::Input => {
-            let goes_on = answer_input(rt, word);
-            Step {
-                is_past,
-                is_sheet: true,
-                goes_on,
-            }
-        }
-        Word::Help => answer_sheet(rt, word, is_past),
-        Word::Option => answer_sheet(rt, word, is_past),
-        Word::Name => answer_sheet(rt, word, is_past),
     }
 }
 
@@ -172,59 +124,55 @@ fn word_at(rt: &HostRuntime, i: usize, into: &mut [u8]) -> usize
     }
 }
 
-// Each sheet in turn, until one cannot be written out.
-fn answer_all(rt: &HostRuntime, count: usize) {
+// Each sheet in turn, until one cannot be written out. Help and options were looked at before: what still begins with a dash is a name.
+fn answer_all(rt: &HostRuntime, count: usize) -> Result<(), Untaken> {
     let mut is_past = false;
     let mut has_sheet = false;
-    let mut i = 1;
-    while i < count {
-        let mut word = io::buffer();
-        let length = word_at(rt, i, &mut word);
-        let step = answer_word(rt, &word[..length], is_past);
-        if !step.goes_on {
-            return;
+    for i in 1..count {
+        let mut buffer = io::buffer();
+        let length = word_at(rt, i, &mut buffer);
+        let word = &buffer[..length];
+        match words::word_behind(is_past, word) {
+            Word::Past => is_past = true,
+            Word::Input => {
+                answer_input(rt, word)?;
+                has_sheet = true;
+            }
+            Word::Help | Word::Option | Word::Name => {
+                answer_file(rt, word)?;
+                has_sheet = true;
+            }
         }
-        is_past = step.is_past;
-        has_sheet = has_sheet | step.is_sheet;
-        i += 1;
     }
     if !has_sheet {
-        answer_input(rt, b"-");
+        answer_input(rt, b"-")?;
     }
+    Ok(())
 }
 
-// Whether a word is a name or an option that the reader takes; where it is not, or help is asked for, this has said so.
-fn is_taken(rt: &HostRuntime, word: &[u8], is_past: bool) -> bool {
-    if is_past {
-        return true;
-    }
-    let kind = words::word_of(word);
-    if kind.is_help() {
-        print_help(rt);
-        return false;
-    }
-    if kind.is_option() {
-        say(rt, word, b" is no option; --help says what is\n");
-        return false;
-    }
-    true
-}
-
-// The words are looked at before any sheet is read.
+// The words are looked at before any sheet is read: whether each is a name or an option that the reader takes. Where one is not, or help is
+// asked for, this has said so.
 fn are_taken(rt: &HostRuntime, count: usize) -> bool {
     let mut is_past = false;
-    let mut i = 1;
-    while i < count {
-        let mut word = io::buffer();
-        let Ok(length) = rt.arg(i, &mut word) else {
+    for i in 1..count {
+        let mut buffer = io::buffer();
+        let Ok(length) = rt.arg(i, &mut buffer) else {
             write_error(rt, b"reader: a name of at most 4096 bytes was expected\n");
             return false;
         };
-        if !is_taken(rt, &word[..length], is_past) {
-            return false;
+        let word = &buffer[..length];
+        match words::word_behind(is_past, word) {
+            Word::Help => {
+                print_help(rt).ok();
+                return false;
+            }
+            Word::Option => {
+                say(rt, word, b" is no option; --help says what is\n");
+                return false;
+            }
+            Word::Past => is_past = true,
+            Word::Input | Word::Name => (),
         }
-        is_past = is_past | words::word_of(&word[..length]).is_past();
-        i += 1;
     }
     true
 }
@@ -242,6 +190,6 @@ fn arg_count(rt: &HostRuntime) -> usize {
 fn main(rt: HostRuntime) {
     let count = arg_count(&rt);
     if are_taken(&rt, count) {
-        answer_all(&rt, count);
+        answer_all(&rt, count).ok();
     }
 }

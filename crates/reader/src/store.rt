@@ -1,4 +1,4 @@
-// Memory for one sheet, as far as its bytes can matter.
+// Fixed memory for one sheet, as far as its bytes can matter: no sheet waits for a heap.
 ghost use Rattle.std.specs.Prelude.{◌≡◌, ◌+◌, length};
 ghost use Rattle.sheet.specs.Rule.{longest};
 

@@ -1,11 +1,9 @@
 -- The code's refusals and its steps in the words of the rule: each refusal by the paper's number and place. Assumes nothing.
-use Rattle.std.specs.Prelude.{ℕ, ◌+◌, Bool, true, false, cond, eqb}
+use Rattle.std.specs.Prelude.{ℕ, ◌+◌, cond, eqb, Result, Ok, Err}
 use Rattle.laws.specs.Lists.{among}
 use Rattle.records.specs.Rule.{Tags, Fault, fine, fault, unless}
 use Rattle.records.specs.declared.refusal.Refusal.{Refusal}
 use Rattle.records.specs.declared.refusal.Refusal.TheVariants.{Short, BytesOver, Count, Tag, StrayNumber, LentTooShort}
-use Rattle.records.specs.declared.refusal.Fault as found
-use Rattle.records.specs.declared.refusal.Fault.TheVariants.{Fine, Found}
 use Rattle.records.specs.declared.tags.Use.{Use}
 use Rattle.records.specs.declared.tags.Use.TheVariants.{Carries, Bare, Unlisted}
 
@@ -31,13 +29,10 @@ place_of LentTooShort = 0
 abbrev pub refusal_fault : Refusal → Fault
 refusal_fault refusal = fault (number_of refusal) (place_of refusal)
 
-abbrev pub fault_of : found.Fault → Fault
-fault_of Fine = fine
-fault_of (Found refusal) = refusal_fault refusal
-
-abbrev pub is_fine : Fault → Bool
-is_fine fine = true
-is_fine (fault number place) = false
+-- what a look at a part of a sheet finds
+abbrev pub fault_of : Result Unit Refusal → Fault
+fault_of (Ok none) = fine
+fault_of (Err refusal) = refusal_fault refusal
 
 -- ---- Steps of the code
 

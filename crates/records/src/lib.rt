@@ -6,4 +6,4 @@ pub mod numbers;
 mod refusal;
 pub mod tags;
 
-pub use refusal::{Fault, Refusal};
+pub use refusal::{Refusal, unless};

@@ -1,4 +1,5 @@
-// Numbers of two and of four bytes, little-endian: a number of four is two halves, the lower one first.
+// Numbers of two and of four bytes, little-endian: a number of four is two halves, the lower one first. The rule says them so, and an array
+// that is cut off a slice for the library's conversion would be no plainer.
 ghost use Rattle.std.specs.Prelude.{◌≡◌, [], ◌∷◌, ◌+◌, ◌≤◌, ◌<◌, length};
 ghost use Rattle.laws.specs.Put.{put};
 ghost use Rattle.records.specs.Rule.{byte_at, two_at, four_at, two_bytes, four_bytes};
@@ -8,7 +9,7 @@ pub fn byte_at(bytes: &[u8], at: usize) -> u32
     requires { at + 1 ≤ length bytes.now }
     ensures { (result ≡ byte_at bytes.now at) × (result < 256) }
 {
-    bytes[at] as u32
+    u32::from(bytes[at])
 }
 
 pub fn two_at(bytes: &[u8], at: usize) -> u32

@@ -4,8 +4,8 @@ ghost use Rattle.laws.specs.Lists.{among};
 ghost use Rattle.records.specs.Rule.{constraint_tags, given_tags, minimum_tags, maximum_tags, stretch_bytes, axis_bytes, unless, fault};
 ghost use Rattle.records.specs.Answer.{fault_of, last_place, use_of, use_fault};
 
-use crate::refusal::{Fault, Refusal};
-use kinds::{Amount, Constraint};
+use crate::refusal::{Refusal, unless};
+use kinds::{Constraint, amount};
 use sheet_kinds::{Axis, SheetMaximum, SheetMinimum};
 
 #[derive(Clone, Copy)]
@@ -15,99 +15,74 @@ pub enum Use {
     Unlisted,
 }
 
+#[tactic(auto, unfolding(laws::specs::Lists::among))]
 pub fn constraint(tag: u32) -> Use
     ensures { result ≡ use_of constraint_tags tag }
 {
-    if tag == Constraint::DEFINITE {
-        return Use::Carries;
+    match tag {
+        Constraint::DEFINITE => Use::Carries,
+        Constraint::MIN_CONTENT | Constraint::MAX_CONTENT => Use::Bare,
+        _ => Use::Unlisted,
     }
-    if tag == Constraint::MIN_CONTENT {
-        return Use::Bare;
-    }
-    if tag == Constraint::MAX_CONTENT {
-        return Use::Bare;
-    }
-    Use::Unlisted
 }
 
+#[tactic(auto, unfolding(laws::specs::Lists::among))]
 pub fn given(tag: u32) -> Use
     ensures { result ≡ use_of given_tags tag }
 {
-    if tag == Amount::GIVEN {
-        return Use::Carries;
+    match tag {
+        amount::GIVEN => Use::Carries,
+        amount::ABSENT => Use::Bare,
+        _ => Use::Unlisted,
     }
-    if tag == Amount::ABSENT {
-        return Use::Bare;
-    }
-    Use::Unlisted
 }
 
+#[tactic(auto, unfolding(laws::specs::Lists::among))]
 pub fn minimum(tag: u32) -> Use
     ensures { result ≡ use_of minimum_tags tag }
 {
-    if tag == SheetMinimum::FIXED {
-        return Use::Carries;
+    match tag {
+        SheetMinimum::FIXED => Use::Carries,
+        SheetMinimum::AUTO | SheetMinimum::MIN_CONTENT | SheetMinimum::MAX_CONTENT => Use::Bare,
+        _ => Use::Unlisted,
     }
-    if tag == SheetMinimum::AUTO {
-        return Use::Bare;
-    }
-    if tag == SheetMinimum::MIN_CONTENT {
-        return Use::Bare;
-    }
-    if tag == SheetMinimum::MAX_CONTENT {
-        return Use::Bare;
-    }
-    Use::Unlisted
 }
 
+#[tactic(auto, unfolding(laws::specs::Lists::among))]
 pub fn maximum(tag: u32) -> Use
     ensures { result ≡ use_of maximum_tags tag }
 {
-    if tag == SheetMaximum::FIXED {
-        return Use::Carries;
+    match tag {
+        SheetMaximum::FIXED | SheetMaximum::FIT_CONTENT | SheetMaximum::FR => Use::Carries,
+        SheetMaximum::AUTO | SheetMaximum::MIN_CONTENT | SheetMaximum::MAX_CONTENT => Use::Bare,
+        _ => Use::Unlisted,
     }
-    if tag == SheetMaximum::FIT_CONTENT {
-        return Use::Carries;
-    }
-    if tag == SheetMaximum::FR {
-        return Use::Carries;
-    }
-    if tag == SheetMaximum::AUTO {
-        return Use::Bare;
-    }
-    if tag == SheetMaximum::MIN_CONTENT {
-        return Use::Bare;
-    }
-    if tag == SheetMaximum::MAX_CONTENT {
-        return Use::Bare;
-    }
-    Use::Unlisted
 }
 
 impl Use {
     // What is wrong with a tag at a place and the number beside it.
-    pub fn fault(self, n: u32, at: usize) -> Fault
+    pub fn fault(self, n: u32, at: usize) -> Result<(), Refusal>
         requires { at + 1 ≤ last_place }
         ensures { fault_of result ≡ use_fault self n at }
     {
         match self {
-            Use::Carries => Fault::Fine,
-            Use::Bare => Fault::unless(n == 0, Refusal::StrayNumber { at: at + 1 }),
-            Use::Unlisted => Fault::Found(Refusal::Tag { at }),
+            Use::Carries => Ok(()),
+            Use::Bare => unless(n == 0, Refusal::StrayNumber { at: at + 1 }),
+            Use::Unlisted => Err(Refusal::Tag { at }),
         }
     }
 }
 
 // What is wrong with a stretch byte.
-pub fn stretch_fault(byte: u32, at: usize) -> Fault
+pub fn stretch_fault(byte: u32, at: usize) -> Result<(), Refusal>
     ensures { fault_of result ≡ unless (among stretch_bytes byte) (fault 4 at) }
 {
-    Fault::unless(byte < 2, Refusal::Tag { at })
+    unless(byte < 2, Refusal::Tag { at })
 }
 
 // What is wrong with an axis byte.
-pub fn axis_fault(byte: u32, at: usize) -> Fault
+pub fn axis_fault(byte: u32, at: usize) -> Result<(), Refusal>
     ensures { fault_of result ≡ unless (among axis_bytes byte) (fault 4 at) }
 {
-    Fault::unless(byte <= Axis::BLOCK, Refusal::Tag { at })
+    unless(byte <= Axis::BLOCK, Refusal::Tag { at })
 }

@@ -24,9 +24,9 @@ module _ (l : List ℕ) (i : ℕ) where
 min_assoc : (a b c : ℕ) → min a (min b c) ≡ min (min a b) c
 min_assoc a b c = omega arith
 
--- b is the least room so far less one, and r a rest less one, which wraps: a rest of 0 lowers nothing
-pub lowered-less-one : (most b x r y : ℕ) → b < 4294967295 → r < 4294967296 → (r + 1) % 4294967296 ≡ x → y ≡ min b r → min most (y + 1) ≡ lowered (min most (b + 1)) x
-lowered-less-one most b x r y h k w p = go (eqb x 0) refl
+-- b is the least room so far less one, which a rest x less one lowers; 0 less one wraps, and lowers nothing
+pub lowered-less-one : (most b x y : ℕ) → b < 4294967295 → x < 4294967296 → y ≡ min b ((x + 4294967295) % 4294967296) → min most (y + 1) ≡ lowered (min most (b + 1)) x
+lowered-less-one most b x y h k p = go (eqb x 0) refl
   where
     go : (t : Bool) → eqb x 0 ≡ t → min most (y + 1) ≡ cond t (min most (b + 1)) (min (min most (b + 1)) x)
     go true e =

@@ -2,7 +2,6 @@
 // rule, specs/Rests.antt the same on rests). Whoever fills rests of his own calls this; the call with its refusals is the crate fill.
 #![tactic(auto)]
 
-mod numbers;
 mod rests;
 
 ghost use Rattle.std.specs.Prelude.{◌≡◌, ℕ, ◌+◌, ◌<◌, ◌≤◌, length};
@@ -10,7 +9,6 @@ ghost use Rattle.rounds.specs.Rule.{most_tracks};
 ghost use Rattle.rounds.specs.Rests.{state_of, rest_round, fill_rests};
 ghost use Rattle.rounds.specs.Found.{found_in};
 
-pub use numbers::{larger, less, smaller};
 use rests::Found;
 pub use rests::take_odd;
 
@@ -49,7 +47,7 @@ fn round(left: u32, found: Found, rests: &mut [u32]) -> u32
         rests::take_odd(left, rests);
         return 0;
     }
-    let k = smaller(q, found.least);
+    let k = q.min(found.least);
     rests::take_each(k, rests);
     left - k * count
 }

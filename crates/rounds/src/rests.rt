@@ -4,9 +4,6 @@ ghost use Rattle.rounds.specs.Rule.{most_tracks};
 ghost use Rattle.rounds.specs.Rests.{take_each, take_odd};
 ghost use Rattle.rounds.specs.Found.{found_in};
 
-use crate::numbers::{less, smaller};
-use std::num::wrapping_sub_u32;
-
 // What a round has to know: how many tracks are open, and the least room of an open one.
 #[derive(Clone, Copy)]
 pub struct Found {
@@ -24,15 +21,11 @@ pub fn survey(most: u32, rests: &[u32]) -> Found
     let mut count: u32 = 0;
     // One more is still a number.
     let mut least_less_one = u32::MAX - 1;
-    let mut i = 0;
-    while i < rests.len() {
-        let rest = rests[i];
-        let one = smaller(1, rest);
-        count += one;
-        least_less_one = smaller(least_less_one, wrapping_sub_u32(rest, 1));
-        i += 1;
+    for &rest in rests {
+        count += rest.min(1);
+        least_less_one = least_less_one.min(rest.wrapping_sub(1));
     }
-    let least = smaller(most, least_less_one + 1);
+    let least = most.min(least_less_one + 1);
     Found { count, least }
 }
 
@@ -40,11 +33,8 @@ pub fn survey(most: u32, rests: &[u32]) -> Found
 pub fn take_each(k: u32, rests: &mut [u32])
     ensures { rests.new ≡ take_each k rests.old }
 {
-    let mut i = 0;
-    while i < rests.len() {
-        let rest = less(rests[i], k);
-        rests[i] = rest;
-        i += 1;
+    for rest in rests.iter_mut() {
+        *rest = rest.saturating_sub(k);
     }
 }
 
@@ -53,12 +43,9 @@ pub fn take_odd(dots: u32, rests: &mut [u32])
     ensures { rests.new ≡ take_odd dots rests.old }
 {
     let mut left = dots;
-    let mut i = 0;
-    while i < rests.len() {
-        let rest = rests[i];
-        let one = smaller(1, smaller(left, rest));
-        rests[i] = less(rest, one);
-        left = less(left, one);
-        i += 1;
+    for rest in rests.iter_mut() {
+        let one = left.min(*rest).min(1);
+        *rest -= one;
+        left -= one;
     }
 }

@@ -5,14 +5,14 @@ use Prim.Native.Nat.{ℕ, ◌+◌, ◌<◌}
 use native.Mathlib.Nat.{mod-add-div}
 use mathlib.Core.List.{List}
 use lib.ListN.{length, get_or}
+use Rattle.std.specs.Prelude.{None}
 use Rattle.laws.specs.Rows.{firsts, elements}
 use Rattle.laws.specs.Lists.{among}
 use Rattle.laws.specs.Faults.{fine-both, fine-test}
 use Rattle.records.specs.Rule.{Row, Part, constraint_tags, given_tags, minimum_tags, maximum_tags, stretch_bytes, axis_bytes, space_record, track_record, item_record, tagged_fault, row_fault, fine, fault, unless}
 use Rattle.rows.specs.Shapes.{width}
-use Rattle.kinds.specs.Kinds.{contribution, amount_at, item_row, item_of}
+use Rattle.kinds.specs.Kinds.{amount_at, item_row, item_of}
 use Rattle.sheet_kinds.specs.Kinds.{space_row, space_of, sheet_track_row, sheet_track_of}
-use Rattle.kinds.specs.declared.amount.Amount.TheVariants.{Absent}
 use Rattle.sheet_kinds.specs.declared.space.Space.{Space}
 use Rattle.sheet_kinds.specs.declared.track.SheetTrack.{SheetTrack}
 use Rattle.kinds.specs.declared.item.ContributionKind.TheVariants as kind
@@ -74,7 +74,7 @@ item-of-row i l h =
       (amount-said (amount_at i kind.Minimum)).0,
       (amount-said (amount_at i kind.MinContent)).0,
       (amount-said (amount_at i kind.MaxContent)).0,
-      ← elements (contribution Absent) 3 i.row l,
+      ← elements None 3 i.row l,
     )
 
 pub item-fine : (i : Item) (p : ℕ) → row_fault item_record (item_row i) p ≡ fine

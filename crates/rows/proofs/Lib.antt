@@ -4,8 +4,9 @@
 pub mod Stands
 -- each tag of a row without fault is a byte
 pub mod Listed
--- a record's bytes, part by part
+-- a record's bytes and its faults, part by part
 pub mod RowBytes
+pub mod RowFaults
 -- a kind and its tag and number; a space, a track and an item and their rows
 pub mod TagCases
 pub mod KindRows

@@ -7,6 +7,7 @@ use Prim.Native.Nat.{ℕ, ◌+◌}
 use mathlib.Core.List.{List, [], ◌∷◌}
 use lib.Dec.{eqb}
 use borrow.Author.Tests.{eqb-true}
+use Rattle.std.specs.Prelude.{None, Some}
 use Rattle.laws.specs.Marks.{bit}
 use Rattle.laws.specs.Tests.{true-or-false, never}
 use Rattle.laws.specs.Lists.{among}
@@ -14,7 +15,6 @@ use Rattle.laws.specs.Faults.{fine-test}
 use Rattle.records.specs.Rule.{Tags, constraint_tags, given_tags, minimum_tags, maximum_tags, stretch_bytes, axis_bytes, tagged_fault, fine, fault, unless}
 use Rattle.kinds.specs.Kinds.{amount_tag, amount_number, amount_of, constraint_tag, constraint_number, constraint_of}
 use Rattle.sheet_kinds.specs.Kinds.{axis_byte, axis_of, sheet_minimum_tag, sheet_minimum_number, sheet_minimum_of, sheet_maximum_tag, sheet_maximum_number, sheet_maximum_of}
-use Rattle.kinds.specs.declared.amount.Amount.TheVariants.{Absent, Given}
 use Rattle.kinds.specs.declared.constraint.Constraint.TheVariants as constraint
 use Rattle.sheet_kinds.specs.declared.axis.Axis.{Axis}
 use Rattle.sheet_kinds.specs.declared.axis.Axis.TheVariants.{Inline, Block}
@@ -70,8 +70,8 @@ constraint-kept = tagged-cases _ constraint_tags ((λ n. (refl, refl)), tt) ((re
 
 pub amount-said : Said given_tags amount_tag amount_number amount_of
 unfolding tagged_fault among
-amount-said Absent = (refl, λ p. refl)
-amount-said (Given n) = (refl, λ p. refl)
+amount-said None = (refl, λ p. refl)
+amount-said (Some n) = (refl, λ p. refl)
 
 pub amount-kept : Kept given_tags amount_tag amount_number amount_of
 amount-kept = tagged-cases _ given_tags ((λ n. (refl, refl)), tt) ((refl, refl), tt)

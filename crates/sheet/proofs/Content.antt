@@ -5,7 +5,7 @@ use native.Mathlib.Nat.{not-suc-le-zero, le_of_suc-le-suc}
 use native.Mathlib.Omega.{arith}
 use mathlib.Core.List.{List, [], ◌∷◌, ◌++◌, append_assoc, append-nil}
 use lib.ListN.{length, get_or, length-append}
-use borrow.Author.Tests.{le-leb, leb-true}
+use borrow.Author.Tests.{le-leb}
 use Rattle.laws.specs.Faults.{first_fine, first-where, fine-both}
 use Rattle.rounds.specs.Rule.{most_tracks}
 use Rattle.rows.specs.Shapes.{EachLong, width}
@@ -99,12 +99,12 @@ module _ (sheet : Sheet) (space_long : length sheet.space ≡ width space_record
     looked-tracks-long : tracks_fault sheet.tracks ≡ fine → EachLong 4 sheet.tracks
     looked-tracks-long e =
         let f = le-of-count-fine (length sheet.tracks) most_tracks tracks_at _ e in
-        long-of-looked 4 track_record sheet.tracks (tracks_at + 2) (looked.at_tracks f.0) f.1
+        long-of-looked 4 track_record sheet.tracks (tracks_at + 2) (looked.at_tracks (le-leb _ _ f.0)) f.1
 
     looked-items-long : tracks_fault sheet.tracks ≡ fine → items_fault sheet.items (items_after (length sheet.tracks)) ≡ fine → EachLong 7 sheet.items
     looked-items-long t e =
         let f = le-of-count-fine (length sheet.items) most_items (items_after (length sheet.tracks)) _ e in
-        long-of-looked 7 item_record sheet.items (items_after (length sheet.tracks) + 2) (looked.at_items t f.0) f.1
+        long-of-looked 7 item_record sheet.items (items_after (length sheet.tracks) + 2) (looked.at_items t (le-leb _ _ f.0)) f.1
 
     -- where no track has a fault, that of the items
     behind-tracks : tracks_fault sheet.tracks ≡ fine
@@ -114,7 +114,7 @@ module _ (sheet : Sheet) (space_long : length sheet.space ≡ width space_record
         let long = looked-tracks-long t in
         let after = items_after (length sheet.tracks) in
         let here : section_fault item_section (sheet_bytes sheet) (items_at (sheet_bytes sheet)) ≡ items_fault sheet.items after =
-        rw items-at (section-fault item_section sheet.items after (items-stand long) (λ a. looked.at_items t (leb-true _ _ a))) in
+        rw items-at (section-fault item_section sheet.items after (items-stand long) (looked.at_items t)) in
         ap (λ (f : Fault). first f (over_fault (sheet_bytes sheet) (sheet_end (sheet_bytes sheet)))) here
         ∙ first-where (items_fault sheet.items after) (λ e. over-fine long (looked-items-long t e))
         ∙ first_fine (items_fault sheet.items after)
@@ -124,7 +124,7 @@ module _ (sheet : Sheet) (space_long : length sheet.space ≡ width space_record
     unfolding width
     looked-fault =
         fault-in-order (sheet_bytes sheet)
-        ∙ rw (space-fault, section-fault track_section sheet.tracks tracks_at tracks-stand (λ a. looked.at_tracks (leb-true _ _ a)))
+        ∙ rw (space-fault, section-fault track_section sheet.tracks tracks_at tracks-stand looked.at_tracks)
         (ap (first (row_fault space_record sheet.space 2)) (first-where (tracks_fault sheet.tracks) behind-tracks))
 
 -- ---- a sheet whose rows have the numbers that their records say

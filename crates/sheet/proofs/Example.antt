@@ -4,8 +4,8 @@ use mathlib.Core.Path.{◌≡◌, refl}
 use mathlib.Core.Bool.{false}
 use mathlib.Core.List.{[], ◌∷◌, ◌++◌}
 use lib.ListN.{length}
+use Rattle.std.specs.Prelude.{Some}
 use Rattle.laws.specs.Lists.{among}
-use Rattle.kinds.specs.declared.amount.Amount.TheVariants.{Given}
 use Rattle.kinds.specs.declared.constraint.Constraint.TheVariants.{Definite}
 use Rattle.sheet_kinds.specs.Kinds.{space, space_row}
 use Rattle.sheet_kinds.specs.declared.axis.Axis.TheVariants.{Inline}
@@ -14,7 +14,7 @@ use Rattle.sheet.specs.Rule.{record_size, row_at, rows_at, row_bytes, rows_bytes
 abbrev w12 : Sheet
 w12 =
     record {
-      space = space_row (space (Definite 100) (Given 100) false Inline);
+      space = space_row (space (Definite 100) (Some 100) false Inline);
       tracks = (2 ∷ 0 ∷ 1 ∷ 0 ∷ []) ∷ [];
       items = (65536 ∷ 1 ∷ 30 ∷ 1 ∷ 30 ∷ 1 ∷ 30 ∷ []) ∷ [];
     }

@@ -2,8 +2,7 @@
 -- nothing.
 use Rattle.std.specs.Prelude.{ℕ, Bool, cond, [], ◌∷◌, eqb, get_or}
 use Rattle.laws.specs.Marks.{bit}
-use Rattle.kinds.specs.Kinds.{Row, amount_tag, amount_number, amount_of, constraint_tag, constraint_number, constraint_of}
-use Rattle.kinds.specs.declared.amount.Amount.{Amount}
+use Rattle.kinds.specs.Kinds.{Row, Amount, amount_tag, amount_number, amount_of, constraint_tag, constraint_number, constraint_of}
 use Rattle.kinds.specs.declared.constraint.Constraint.{Constraint}
 use Rattle.sheet_kinds.specs.declared.axis.Axis.{Axis}
 use Rattle.sheet_kinds.specs.declared.axis.Axis.TheVariants.{Inline, Block}

@@ -1,9 +1,8 @@
 -- What the sizing reads of a sheet: of the space its expansion space, of each track the one that is sized. The constraint, whether to
 -- stretch, and the items are read as they are. This page follows the build paper, the first sentence of its step 6 among it. It
 -- assumes nothing of the code and it computes.
-use Rattle.kinds.specs.Kinds.{track}
-use Rattle.kinds.specs.declared.amount.Amount.{Amount}
-use Rattle.kinds.specs.declared.amount.Amount.TheVariants.{Absent, Given}
+use Rattle.std.specs.Prelude.{Some, None}
+use Rattle.kinds.specs.Kinds.{Amount, track}
 use Rattle.kinds.specs.declared.constraint.Constraint.{Constraint}
 use Rattle.kinds.specs.declared.constraint.Constraint.TheVariants.{Definite, MinContent, MaxContent}
 use Rattle.kinds.specs.declared.track.Minimum.{Minimum}
@@ -30,8 +29,8 @@ without_inner Block MinContent = MaxContent
 without_inner axis MaxContent = MaxContent
 
 abbrev pub expansion_of : Axis → Amount → Constraint → Constraint
-expansion_of axis (Given n) c = Definite n
-expansion_of axis Absent c = without_inner axis c
+expansion_of axis (Some n) c = Definite n
+expansion_of axis None c = without_inner axis c
 
 abbrev pub expansion : Space → Constraint
 expansion s = expansion_of s.axis s.inner s.constraint

@@ -17,10 +17,10 @@ impl Axis {
     pub fn of(byte: u32) -> Axis
         ensures { result ≡ axis_of byte }
     {
-        if byte == Axis::BLOCK {
-            return Axis::Block;
+        match byte {
+            Self::BLOCK => Self::Block,
+            _ => Self::Inline,
         }
-        Axis::Inline
     }
 
     pub fn byte(self) -> u32

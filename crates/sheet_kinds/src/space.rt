@@ -4,7 +4,7 @@ ghost use Rattle.sheet_kinds.specs.Kinds.{space_of, space_row};
 ghost use Rattle.sheet_kinds.specs.Rule.{expansion};
 
 use crate::axis::Axis;
-use kinds::{Amount, Constraint, bit};
+use kinds::{Constraint, amount};
 
 // A space's numbers in the order of its record: constraint tag and number, inner size tag and number, stretch, axis.
 pub type SpaceRow = [u32; 6];
@@ -12,7 +12,7 @@ pub type SpaceRow = [u32; 6];
 #[derive(Clone, Copy)]
 pub struct Space {
     pub constraint: Constraint,
-    pub inner: Amount,
+    pub inner: Option<u32>,
     pub stretch: bool,
     pub axis: Axis,
 }
@@ -26,7 +26,7 @@ impl Space {
         ensures { result ≡ space_of row }
     {
         let constraint = Constraint::of(row[0], row[1]);
-        let inner = Amount::of(row[2], row[3]);
+        let inner = amount::of(row[2], row[3]);
         let stretch = row[4] == 1;
         let axis = Axis::of(row[5]);
         Space {
@@ -40,16 +40,13 @@ impl Space {
     pub fn row(self) -> SpaceRow
         ensures { result ≡ space_row self }
     {
-        let constraint = self.constraint;
-        let inner = self.inner;
-        let axis = self.axis;
         [
-            constraint.tag(),
-            constraint.number(),
-            inner.tag(),
-            inner.number(),
-            bit(self.stretch),
-            axis.byte(),
+            self.constraint.tag(),
+            self.constraint.number(),
+            amount::tag(self.inner),
+            amount::number(self.inner),
+            u32::from(self.stretch),
+            self.axis.byte(),
         ]
     }
 
@@ -57,19 +54,12 @@ impl Space {
     pub fn expansion(self) -> Constraint
         ensures { result ≡ expansion self }
     {
-        let inner = self.inner;
-        let constraint = self.constraint;
-        let axis = self.axis;
-        match inner {
-            Amount::Given(n) => Constraint::Definite(n),
-            Amount::Absent => match constraint {
-                Constraint::Definite(_) => Constraint::MaxContent,
-                Constraint::MinContent => match axis {
-                    Axis::Inline => Constraint::MinContent,
-                    Axis::Block => Constraint::MaxContent,
-                },
-                Constraint::MaxContent => Constraint::MaxContent,
-            },
+        match (self.inner, self.constraint, self.axis) {
+            (Some(n), _, _) => Constraint::Definite(n),
+            (None, Constraint::Definite(_), _) => Constraint::MaxContent,
+            (None, Constraint::MinContent, Axis::Inline) => Constraint::MinContent,
+            (None, Constraint::MinContent, Axis::Block) => Constraint::MaxContent,
+            (None, Constraint::MaxContent, _) => Constraint::MaxContent,
         }
     }
 }

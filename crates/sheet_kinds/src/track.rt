@@ -5,6 +5,8 @@ ghost use Rattle.sheet_kinds.specs.Rule.{resolved_minimum, resolved_maximum, res
 
 use kinds::{Maximum, Minimum, Track};
 
+// Types of their own, beside those of `kinds`: a sheet gets kinds that the sizing never sees, and the rule (specs/Rule.antt) says how each
+// is sized.
 #[derive(Clone, Copy)]
 pub enum SheetMinimum {
     Fixed(u32),
@@ -36,26 +38,11 @@ impl SheetMinimum {
     fn of(tag: u32, n: u32) -> SheetMinimum
         ensures { result ≡ sheet_minimum_of tag n }
     {
-        if tag == SheetMinimum::FIXED {
-            return SheetMinimum::Fixed(n);
-        }
-        if tag == SheetMinimum::AUTO {
-            return SheetMinimum::Auto;
-        }
-        if tag == SheetMinimum::MIN_CONTENT {
-            return SheetMinimum::MinContent;
-        }
-        SheetMinimum::MaxContent
-    }
-
-    fn resolved(self) -> Minimum
-        ensures { result ≡ resolved_minimum self }
-    {
-        match self {
-            SheetMinimum::Fixed(n) => Minimum::Fixed(n),
-            SheetMinimum::Auto => Minimum::Auto,
-            SheetMinimum::MinContent => Minimum::MinContent,
-            SheetMinimum::MaxContent => Minimum::MaxContent,
+        match tag {
+            Self::FIXED => Self::Fixed(n),
+            Self::AUTO => Self::Auto,
+            Self::MIN_CONTENT => Self::MinContent,
+            _ => Self::MaxContent,
         }
     }
 }
@@ -77,28 +64,36 @@ impl SheetMaximum {
     fn of(tag: u32, n: u32) -> SheetMaximum
         ensures { result ≡ sheet_maximum_of tag n }
     {
-        if tag == SheetMaximum::FIXED {
-            return SheetMaximum::Fixed(n);
+        match tag {
+            Self::FIXED => Self::Fixed(n),
+            Self::AUTO => Self::Auto,
+            Self::MIN_CONTENT => Self::MinContent,
+            Self::MAX_CONTENT => Self::MaxContent,
+            Self::FIT_CONTENT => Self::FitContent(n),
+            _ => Self::Fr(n),
         }
-        if tag == SheetMaximum::AUTO {
-            return SheetMaximum::Auto;
-        }
-        if tag == SheetMaximum::MIN_CONTENT {
-            return SheetMaximum::MinContent;
-        }
-        if tag == SheetMaximum::MAX_CONTENT {
-            return SheetMaximum::MaxContent;
-        }
-        if tag == SheetMaximum::FIT_CONTENT {
-            return SheetMaximum::FitContent(n);
-        }
-        SheetMaximum::Fr(n)
     }
+}
 
-    fn resolved(self) -> Maximum
-        ensures { result ≡ resolved_maximum self }
-    {
-        match self {
+// What the sizing reads of each.
+impl From<SheetMinimum> for Minimum {
+    ghost from_gives = { λ said sized. sized ≡ resolved_minimum said };
+
+    fn from(said: SheetMinimum) -> Minimum {
+        match said {
+            SheetMinimum::Fixed(n) => Minimum::Fixed(n),
+            SheetMinimum::Auto => Minimum::Auto,
+            SheetMinimum::MinContent => Minimum::MinContent,
+            SheetMinimum::MaxContent => Minimum::MaxContent,
+        }
+    }
+}
+
+impl From<SheetMaximum> for Maximum {
+    ghost from_gives = { λ said sized. sized ≡ resolved_maximum said };
+
+    fn from(said: SheetMaximum) -> Maximum {
+        match said {
             SheetMaximum::Fixed(n) => Maximum::Fixed(n),
             SheetMaximum::Auto => Maximum::Auto,
             SheetMaximum::MinContent => Maximum::MinContent,
@@ -129,13 +124,9 @@ impl SheetTrack {
     pub fn resolved(self) -> Track
         ensures { result ≡ resolved self }
     {
-        let minimum = self.minimum;
-        let maximum = self.maximum;
-        let least = minimum.resolved();
-        let greatest = maximum.resolved();
         Track {
-            minimum: least,
-            maximum: greatest,
+            minimum: self.minimum.into(),
+            maximum: self.maximum.into(),
         }
     }
 }

@@ -1,27 +1,23 @@
 -- What a case wants told of each call: a refusal's number and place, or the parts of an answer that is no refusal.
 -- Assumes nothing.
-use Rattle.std.specs.Prelude.{◌≡◌, ℕ, Bool, true, false, List}
-use Rattle.records.specs.Answer.{number_of, place_of}
+use Rattle.std.specs.Prelude.{List, Result, Ok, Err}
+use Rattle.cases.specs.declared.wanted.Answer.{Answer}
+use Rattle.cases.specs.declared.wanted.Refused.{Refused}
 use Rattle.sheet.specs.Rule.{Row, Sheet, ReadTold, sheet_read, read_refused, WriteTold, sheet_written, write_refused, EndTold, end_at, end_refused}
-use Rattle.records.specs.declared.refusal.Refusal.{Refusal}
 
--- the refusal has the number and the place that a case wants
-pub record Refuses (refusal : Refusal) (is_refusal : Bool) (number place : ℕ) : Type 0 where
-  pub is : is_refusal ≡ true
-  pub numbered : number ≡ number_of refusal
-  pub placed : place ≡ place_of refusal
+abbrev pub wanted_read : Result Answer Refused → Row → ReadTold
+wanted_read (Ok rows) space = sheet_read space rows.first rows.second
+wanted_read (Err refusal) space = read_refused refusal.number refusal.place
 
-abbrev pub wanted_read : Bool → ℕ → ℕ → Row → ReadTold
-wanted_read true number place space = read_refused number place
-wanted_read false tracks items space = sheet_read space tracks items
+-- the first number is the size
+abbrev pub wanted_write : Result Answer Refused → WriteTold
+wanted_write (Ok size) = sheet_written size.first
+wanted_write (Err refusal) = write_refused refusal.number refusal.place
 
-abbrev pub wanted_write : Bool → ℕ → ℕ → WriteTold
-wanted_write true number place = write_refused number place
-wanted_write false size unused = sheet_written size
-
-abbrev pub wanted_end : Bool → ℕ → ℕ → EndTold
-wanted_end true number place = end_refused number place
-wanted_end false place unused = end_at place
+-- the first number is the place
+abbrev pub wanted_end : Result Answer Refused → EndTold
+wanted_end (Ok place) = end_at place.first
+wanted_end (Err refusal) = end_refused refusal.number refusal.place
 
 -- the sheet of a case that writes
 abbrev pub sheet_said : Row → List Row → List Row → Sheet

@@ -8,50 +8,6 @@ use crate::space::is_space;
 use cases::{Wanted, same};
 use sheet::{Space, SpaceRow};
 
-fn same_track(a: [u32; 4], b: [u32; 4]) -> bool
-    ensures { result ≡ true → a ≡ b }
-{
-    same(&a, &b)
-}
-
-fn same_item(a: [u32; 7], b: [u32; 7]) -> bool
-    ensures { result ≡ true → a ≡ b }
-{
-    same(&a, &b)
-}
-
-fn same_tracks(a: &[[u32; 4]], b: &[[u32; 4]]) -> bool
-    ensures { result ≡ true → a.now ≡ b.now }
-{
-    if a.len() != b.len() {
-        return false;
-    }
-    let mut i = 0;
-    while i < a.len() {
-        if !same_track(a[i], b[i]) {
-            return false;
-        }
-        i += 1;
-    }
-    true
-}
-
-fn same_items(a: &[[u32; 7]], b: &[[u32; 7]]) -> bool
-    ensures { result ≡ true → a.now ≡ b.now }
-{
-    if a.len() != b.len() {
-        return false;
-    }
-    let mut i = 0;
-    while i < a.len() {
-        if !same_item(a[i], b[i]) {
-            return false;
-        }
-        i += 1;
-    }
-    true
-}
-
 // Whether reading tells what is wanted and leaves the rows as given after it.
 pub fn reads(
     wanted: Wanted,
@@ -62,16 +18,12 @@ pub fn reads(
     tracks_after: &[[u32; 4]],
     items_after: &[[u32; 7]],
 ) -> bool
-    ensures { result ≡ true → read_outcome (wanted_read wanted.is_refusal wanted.first wanted.second space) tracks_after.now items_after.now ≡ read_call bytes.now tracks.old items.old }
+    ensures { result ≡ true → read_outcome (wanted_read wanted space) tracks_after.now items_after.now ≡ read_call bytes.now tracks.old items.old }
 {
     let answer = sheet::read(bytes, tracks, items);
-    if !answers::is_read(wanted, space, answer) {
-        return false;
-    }
-    if !same_tracks(tracks, tracks_after) {
-        return false;
-    }
-    same_items(items, items_after)
+    answers::is_read(wanted, space, answer)
+        && same(tracks, tracks_after)
+        && same(items, items_after)
 }
 
 // Whether writing the space that its row says, with these rows, tells what is wanted and leaves the bytes as given
@@ -84,22 +36,17 @@ pub fn writes(
     bytes: &mut [u8],
     after: &[u8],
 ) -> bool
-    ensures { result ≡ true → write_outcome (wanted_write wanted.is_refusal wanted.first wanted.second) after.now ≡ write_call (sheet_said space tracks.now items.now) bytes.old }
+    ensures { result ≡ true → write_outcome (wanted_write wanted) after.now ≡ write_call (sheet_said space tracks.now items.now) bytes.old }
 {
     let said = Space::of_row(space);
-    if !is_space(said, space) {
-        return false;
-    }
-    let answer = sheet::write(said, tracks, items, bytes);
-    if !answers::is_written(wanted, answer) {
-        return false;
-    }
-    check::same(bytes, after)
+    is_space(said, space)
+        && answers::is_size(wanted, sheet::write(said, tracks, items, bytes))
+        && *bytes == *after
 }
 
 // Whether the end of a sheet is told as wanted.
 pub fn ends(wanted: Wanted, bytes: &[u8]) -> bool
-    ensures { result ≡ true → wanted_end wanted.is_refusal wanted.first wanted.second ≡ end_call bytes.now }
+    ensures { result ≡ true → wanted_end wanted ≡ end_call bytes.now }
 {
-    answers::is_end(wanted, sheet::end(bytes))
+    answers::is_size(wanted, sheet::end(bytes))
 }

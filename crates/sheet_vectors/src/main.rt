@@ -5,25 +5,8 @@
 mod answers;
 mod case;
 mod compare;
-mod row_lists;
 mod space;
 
-use cases::Walk;
-
-fn check_all(text: &[u8]) {
-    let mut walk = Walk::new(text);
-    while walk.at < text.len() {
-        let checked = case::check_case(text, walk.case(text));
-        walk = walk.counted(text, checked);
-    }
-    walk.print(b"sheet_vectors", text);
-}
-
 fn main(rt: HostRuntime) {
-    let mut text = cases::buffer();
-    let loaded = cases::load(&rt, b"sheet_vectors", &mut text);
-    let length = loaded.length;
-    if loaded.is_whole {
-        check_all(&text[..length]);
-    }
+    cases::run(&rt, "sheet_vectors", case::check_case);
 }

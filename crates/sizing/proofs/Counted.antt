@@ -15,7 +15,7 @@ use Rattle.kinds.specs.declared.constraint.Constraint.{Constraint}
 use Rattle.kinds.specs.declared.constraint.Constraint.TheVariants.{Definite, MinContent, MaxContent}
 use Rattle.kinds.specs.declared.track.Track.{Track}
 use Rattle.lines.specs.declared.line.Line.{Line}
-use Rattle.lines.specs.declared.limit.Limit.TheVariants.{UpTo}
+use Rattle.std.specs.Prelude.{Some}
 use Rattle.lines.specs.declared.measured.Measured.{Measured}
 use Rattle.lines.specs.Rule.{Sharing, Letter, with_base, with_limit, limit_size, bases, measured_items, on_fr, settled, start_line, start, in_one_track, singles, grown_base, base_letters, letters, shares, shares_by_factor, raise, batched, in_span, longer, last_batch, missing, content, filled_lines, maximise_track, maximise, stretch_track, stretched, fr_for, finish, sizes_of, size}
 use Rattle.lines.proofs.Fits.{length-take-singles}
@@ -32,7 +32,7 @@ length-batched share steps c (i ∷ is) ls = in-turn-long (raise share c (i ∷ 
 length-content : (c : Constraint) (ts : List Track) (is : List Measured) → length (content c ts is) ≡ length ts
 unfolding content missing last_batch longer singles start
 length-content c ts is =
-    length-map (last_batch c ts is (longer c ts is (singles c (keep (in_one_track ts) is) (start ts)))) (λ (l : Line). with_limit l (UpTo (limit_size l)))
+    length-map (last_batch c ts is (longer c ts is (singles c (keep (in_one_track ts) is) (start ts)))) (λ (l : Line). with_limit l (Some (limit_size l)))
     ∙ length-batched shares_by_factor (base_letters c) c (keep (on_fr ts) is) (longer c ts is (singles c (keep (in_one_track ts) is) (start ts)))
     ∙ in-turn-long (λ (n : ℕ). batched shares (letters c) c (keep (in_span ts n) is)) (λ (n : ℕ). length-batched shares (letters c) c (keep (in_span ts n) is)) (up_from 2 (length ts - 1)) (singles c (keep (in_one_track ts) is) (start ts))
     ∙ length-map (in_turn _ (keep (in_one_track ts) is) (start ts)) settled

@@ -3,6 +3,7 @@
 use mathlib.Core.Path.{◌≡◌, refl, sym, ap, ap₂, ◌∙◌}
 use mathlib.Core.Bool.{Bool, true, false, not}
 use mathlib.Core.List.{List, [], map, zip_with}
+use mathlib.Core.Logic.{◌≢◌}
 use Prim.Native.Nat.{ℕ, ◌+◌, ◌-◌, ◌≤◌, ◌<◌}
 use native.Mathlib.Omega.{arith}
 use lib.ListN.{length, get_or, replicate, length-map, length-replicate}
@@ -105,12 +106,11 @@ unfolding stretched
 stretch-not-asked false e ls h = refl
 stretch-not-asked true e ls h = never h refl
 
-pub stretch-min-content : (asked : Bool) (ls : List Line) → ls ≡ stretched asked MinContent ls
+-- in a space that is not definite
+pub stretch-elsewhere : (asked : Bool) (e : Constraint) (ls : List Line) → ((n : ℕ) → e ≢ Definite n) → ls ≡ stretched asked e ls
 unfolding stretched
-stretch-min-content false ls = refl
-stretch-min-content true ls = refl
-
-pub stretch-max-content : (asked : Bool) (ls : List Line) → ls ≡ stretched asked MaxContent ls
-unfolding stretched
-stretch-max-content false ls = refl
-stretch-max-content true ls = refl
+stretch-elsewhere asked (Definite n) ls other = absurd (other n refl)
+stretch-elsewhere false MinContent ls other = refl
+stretch-elsewhere true MinContent ls other = refl
+stretch-elsewhere false MaxContent ls other = refl
+stretch-elsewhere true MaxContent ls other = refl

@@ -16,7 +16,7 @@ use Rattle.lines.specs.Rule.{measured_items, on_fr, content, Maximised, maximise
 use Rattle.lines.specs.Fits.{LineFits, LinesFit}
 use Rattle.lines.proofs.Maximise.{Limited, missing-limited, maximise-fits}
 use Rattle.sizing.specs.Size.{free_told, maximised, most_base, BasesFit, finished_lines}
-use Rattle.sizing.specs.declared.free.Free.{Free}
+use Rattle.std.specs.Prelude.{ℤ, Option}
 use Rattle.sizing.proofs.Finished.{finished-is}
 
 pub bases-fit : (ls : List Line) → LinesFit ls → BasesFit ls
@@ -36,7 +36,7 @@ maximised-fit c ts is ls out rounds e f m =
 abbrev told : ℕ → List Row → FreeTold → Board
 told n ps d = record { sizes = ps; free = d; rounds = n }
 
-pub sized : (c e : Constraint) (asked : Bool) (ts : List Track) (is : List Item) (ls out : List Line) (batch : List Measured) (sizes : List Row) (free : Free) (rounds : ℕ)
+pub sized : (c e : Constraint) (asked : Bool) (ts : List Track) (is : List Item) (ls out : List Line) (batch : List Measured) (sizes : List Row) (free : Option ℤ) (rounds : ℕ)
     → ls ≡ content c ts (measured_items ts is) → maximised out rounds ≡ maximise c ls → batch ≡ keep (on_fr ts) (measured_items ts is)
     → free_told free ≡ free_of e (finished_lines e asked batch out) → sizes ≡ map sizes_of (finished_lines e asked batch out)
     → told rounds sizes (free_told free) ≡ size c e asked ts is

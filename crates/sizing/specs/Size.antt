@@ -1,6 +1,6 @@
 -- What the sizing asks of a board that has passed the checks, its free space in the words of the rule, and steps 5 to 7 as the code goes
 -- about them. Assumes nothing.
-use Rattle.std.specs.Prelude.{ℕ, ◌+◌, ◌-◌, ◌≤◌, Bool, List, map, length}
+use Rattle.std.specs.Prelude.{ℕ, ℤ, ◌+◌, ◌-◌, ◌≤◌, Bool, List, map, length, Option, Some, None}
 use Rattle.rounds.specs.Rule.{most_tracks, most_dots}
 use Rattle.kinds.specs.Kinds.{Row, track_of, item_of}
 use Rattle.spanned.specs.Sound.{ConstraintFits, Sound}
@@ -8,19 +8,15 @@ use Rattle.laws.specs.Lists.{All}
 use Rattle.lines.specs.declared.line.Line.{Line}
 use Rattle.lines.specs.Rule.{FreeTold, none, dots, Board, Maximised, bases, expand, stretched, size}
 use Rattle.lines.specs.declared.measured.Measured.{Measured}
-use Rattle.lines.specs.Rows.{lines_of}
-use Rattle.lines.specs.Chains.{chained}
 use Rattle.letters.specs.Letters.{most}
 use Rattle.flexible.specs.Flexes.{fr_over}
 use Rattle.kinds.specs.declared.constraint.Constraint.{Constraint}
 use Rattle.kinds.specs.declared.constraint.Constraint.TheVariants.{Definite, MinContent, MaxContent}
-use Rattle.sizing.specs.declared.free.Free.{Free}
-use Rattle.sizing.specs.declared.free.Free.TheVariants as free
 use Rattle.sizing.specs.declared.Sized.{Sized}
 
-abbrev pub free_told : Free → FreeTold
-free_told free.None = none
-free_told (free.Dots d) = dots d
+abbrev pub free_told : Option ℤ → FreeTold
+free_told None = none
+free_told (Some d) = dots d
 
 -- no number over its limit, every item on tracks that are there, and no more tracks than a board has
 pub record Sizable (constraint expansion : Constraint) (tracks items : List Row) : Type 0 where
@@ -63,7 +59,3 @@ FreeFits MaxContent ls = Unit {0}
 -- steps 6 and 7 with the batch of the items that cross an fr track
 abbrev pub finished_lines : (expansion : Constraint) (asked : Bool) → List Measured → List Line → List Line
 finished_lines e asked batch ls = stretched asked e (expand (fr_over e batch ls) ls)
-
--- the same from the rows of the store, where `first` heads the batch's chain
-abbrev pub finished_rows : (expansion : Constraint) (asked : Bool) → List Row → List ℕ → ℕ → List Row → List Line
-finished_rows e asked items nexts first lines = finished_lines e asked (chained items nexts first) (lines_of lines)

@@ -11,7 +11,7 @@ ghost use Rattle.sizing.specs.Store.{Filling};
 
 use kinds::Constraint;
 use letters::{Share, base_total, beyond, grow_bases, share_out};
-use lines::{Pass, pass_over};
+use lines::bases_to_limits;
 
 // Each base grows by what the fill gives it; the rounds come back. No increase is planned before and after.
 fn fill_bases(
@@ -49,7 +49,7 @@ pub(crate) fn maximise(
         }
         Constraint::MinContent => fill_bases(Share::Maximise, 0, lines, increases, rests),
         Constraint::MaxContent => {
-            pass_over(Pass::ToLimits, lines);
+            bases_to_limits(lines);
             0
         }
     }
@@ -74,7 +74,6 @@ pub(crate) fn stretch(
             let dots = beyond(n, base_total(lines));
             fill_bases(Share::Stretch, dots, lines, increases, rests);
         }
-        Constraint::MinContent => {}
-        Constraint::MaxContent => {}
+        _ => {}
     }
 }

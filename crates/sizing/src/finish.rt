@@ -4,28 +4,27 @@ ghost use Rattle.rounds.specs.Rule.{most_tracks};
 ghost use Rattle.lines.specs.Rule.{free_of, sizes_of};
 ghost use Rattle.lines.specs.Rows.{lines_of};
 ghost use Rattle.spanned.specs.Sound.{ConstraintFits};
-ghost use Rattle.lines.specs.Chains.{ChainFits};
-ghost use Rattle.sizing.specs.Size.{free_told, FreeFits, finished_rows};
+ghost use Rattle.lines.specs.Fits.{MeasuredFit};
+ghost use Rattle.sizing.specs.Size.{free_told, FreeFits, finished_lines};
 ghost use Rattle.sizing.specs.Store.{Finishing};
 
 use crate::dots::stretch;
-use crate::free::{Free, difference};
+use crate::free::difference;
 use flexible::flex;
 use kinds::Constraint;
 use letters::base_total;
-use lines::Line;
+use lines::{Chain, Line};
 
-pub(crate) fn free_of(expansion: Constraint, lines: &[[u32; 8]]) -> Free
+pub(crate) fn free_of(expansion: Constraint, lines: &[[u32; 8]]) -> Option<i32>
     requires { (length lines.now ≤ most_tracks) × ConstraintFits expansion × FreeFits expansion (lines_of lines.now) }
     ensures { free_told result ≡ free_of expansion (lines_of lines.now) }
 {
     match expansion {
         Constraint::Definite(n) => {
             let total = base_total(lines);
-            Free::Dots(difference(n as u64, total))
+            Some(difference(n as u64, total))
         }
-        Constraint::MinContent => Free::None,
-        Constraint::MaxContent => Free::None,
+        _ => None,
     }
 }
 
@@ -34,35 +33,31 @@ pub(crate) fn write_sizes(lines: &[[u32; 8]], sizes: &mut [[u32; 2]])
     requires { length sizes.old ≡ length lines.now }
     ensures { sizes.new ≡ map sizes_of (lines_of lines.now) }
 {
-    let mut i = 0;
-    while i < sizes.len() {
+    for (i, size) in sizes.iter_mut().enumerate() {
         let line = Line::of_row(lines[i]);
-        sizes[i] = [line.base, line.limit_size()];
-        i += 1;
+        *size = [line.base, line.limit_size()];
     }
 }
 
-// Steps 6 and 7, then the sizes; the free space comes back. `first` heads the chain of the items that cross an fr track.
+// Steps 6 and 7, then the sizes; the free space comes back. The batch has the items that cross an fr track.
 pub(crate) fn finish(
     expansion: Constraint,
     asked: bool,
-    first: usize,
-    nexts: &[usize],
-    items: &[[u32; 7]],
+    batch: &Chain<'_>,
     lines: &mut [[u32; 8]],
     increases: &mut [u32],
     rests: &mut [u32],
     held: &mut [bool],
     sizes: &mut [[u32; 2]],
-) -> Free
+) -> Option<i32>
     requires { Finishing lines.old increases.old rests.old held.old sizes.old
-        × ChainFits (length lines.old) items.now nexts.now first
+        × MeasuredFit (length lines.old) batch.now
         × ConstraintFits expansion }
-    ensures { (free_told result ≡ free_of expansion (finished_rows expansion asked items.now nexts.now first lines.old))
-        × (sizes.new ≡ map sizes_of (finished_rows expansion asked items.now nexts.now first lines.old)) }
+    ensures { (free_told result ≡ free_of expansion (finished_lines expansion asked batch.now (lines_of lines.old)))
+        × (sizes.new ≡ map sizes_of (finished_lines expansion asked batch.now (lines_of lines.old))) }
 {
     let total = base_total(lines);
-    flex(expansion, total, first, nexts, items, lines, held);
+    flex(expansion, total, batch, lines, held);
     stretch(asked, expansion, lines, increases, rests);
     write_sizes(lines, sizes);
     free_of(expansion, lines)

@@ -3,12 +3,6 @@ ghost use Rattle.std.specs.Prelude.{◌≡◌, ◌+◌, ◌≤◌};
 ghost use Rattle.std.proofs.Math.IntN.{sub_ℕ};
 ghost use Rattle.sizing.specs.Size.{most_free, most_lacking};
 
-#[derive(Clone, Copy)]
-pub enum Free {
-    None,
-    Dots(i32),
-}
-
 // dots - total, exact wherever an i32 can say it: down to -2,147,483,648 and up to 2,147,483,647.
 pub(crate) fn difference(dots: u64, total: u64) -> i32
     requires { (dots ≤ total + most_free) × (total ≤ dots + most_lacking) }

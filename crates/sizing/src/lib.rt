@@ -14,17 +14,19 @@ use chains::fr_batch;
 use content::content;
 use dots::maximise;
 use finish::finish;
-pub use free::Free;
 use kinds::Constraint;
+use lines::Chain;
 
 #[derive(Clone, Copy)]
 pub struct Sized {
-    pub free: Free,
+    // None where the expansion space is not definite.
+    pub free: Option<i32>,
     pub rounds: u32,
 }
 
 // Base and limit of track t become `sizes[t]`. `asked` says whether to stretch. The rest is the store: a head for each batch, a next beside
-// each item, and beside each track a line, its increase, scratch, totals and a mark.
+// each item, and beside each track a line, its increase, scratch, totals and a mark. It is lent slice by slice: no heap, and a struct of
+// them would be no plainer (spans/src/batch.rt says why).
 pub fn size(
     constraint: Constraint,
     expansion: Constraint,
@@ -50,10 +52,9 @@ pub fn size(
         constraint, tracks, items, heads, nexts, lines, increases, gains, rests, sums,
     );
     let rounds = maximise(constraint, lines, increases, rests);
-    let last = fr_batch(tracks.len());
-    let first = heads[last];
+    let batch = Chain::new(items, nexts, heads[fr_batch(tracks.len())]);
     let free = finish(
-        expansion, asked, first, nexts, items, lines, increases, rests, held, sizes,
+        expansion, asked, &batch, lines, increases, rests, held, sizes,
     );
     Sized { free, rounds }
 }

@@ -2,3 +2,5 @@
 
 -- a test of each of three contributions
 pub mod Three
+-- a look at the rows that are spanned
+pub mod Rows

@@ -1,10 +1,8 @@
 -- What an item spans, and when it is measured; and the limits of the numbers. This page goes by the kinds that the sizing reads, and it
 -- computes. It assumes nothing of the code.
-use Rattle.std.specs.Prelude.{ℕ, Bool, true, false, not, ◌&&◌, List, [], ◌∷◌, take, drop}
+use Rattle.std.specs.Prelude.{ℕ, Bool, true, false, not, ◌&&◌, List, [], ◌∷◌, take, drop, None, Some}
 use Rattle.laws.specs.Lists.{some}
-use Rattle.kinds.specs.Kinds.{amount_at}
-use Rattle.kinds.specs.declared.amount.Amount.{Amount}
-use Rattle.kinds.specs.declared.amount.Amount.TheVariants.{Absent, Given}
+use Rattle.kinds.specs.Kinds.{amount_at, Amount}
 use Rattle.kinds.specs.declared.track.Minimum.{Minimum}
 use Rattle.kinds.specs.declared.track.Minimum.TheVariants as minimum
 use Rattle.kinds.specs.declared.track.Maximum.{Maximum}
@@ -77,8 +75,8 @@ abbrev pub contribution_kinds : List ContributionKind
 contribution_kinds = kind.Minimum ∷ kind.MinContent ∷ kind.MaxContent ∷ []
 
 abbrev pub is_absent : Amount → Bool
-is_absent Absent = true
-is_absent (Given n) = false
+is_absent None = true
+is_absent (Some n) = false
 
 abbrev pub lacks_contribution : Item → Bool
 lacks_contribution i = some (λ (k : ContributionKind). is_absent (amount_at i k)) contribution_kinds

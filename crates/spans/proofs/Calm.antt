@@ -1,12 +1,11 @@
 -- Lines at rest: a letter that gives nothing leaves them, a batch ends with them, and so does step 2. Assumes nothing.
-use mathlib.Core.Path.{◌≡◌, refl, sym, ap, ◌∙◌, subst}
-use mathlib.Core.Bool.{Bool, true, false, cond, not, ◌&&◌, true≢false}
+use mathlib.Core.Path.{◌≡◌, refl, sym, ap, ◌∙◌}
+use mathlib.Core.Bool.{Bool, true, false, cond, ◌&&◌, true≢false}
 use mathlib.Core.List.{List, [], ◌∷◌, zip_with}
 use Prim.Native.Nat.{ℕ, ◌+◌}
 use native.Mathlib.Nat.{add-zero}
 use native.Mathlib.Omega.{arith}
-use borrow.Author.Tests.{eqb-true, not-false}
-use lib.Dec.{ltb, eqb}
+use lib.Dec.{ltb}
 use lib.ListN.{length, replicate}
 use Rattle.laws.specs.Lists.{All, in_turn}
 use Rattle.laws.specs.Changes.{all-change, in-turn-keeps}
@@ -14,32 +13,31 @@ use Rattle.laws.specs.Alls.{all_map, all-image, image-all}
 use Rattle.kinds.specs.declared.constraint.Constraint.{Constraint}
 use Rattle.kinds.specs.declared.constraint.Constraint.TheVariants.{Definite, MinContent, MaxContent}
 use Rattle.kinds.specs.declared.track.Track.{Track}
-use Rattle.lines.specs.declared.limit.Limit.{Limit}
-use Rattle.lines.specs.declared.limit.Limit.TheVariants.{None, UpTo}
+use Rattle.std.specs.Prelude.{Some, None}
 use Rattle.lines.specs.declared.line.Line.{Line}
 use Rattle.lines.specs.declared.measured.Measured.{Measured}
-use Rattle.lines.specs.Rule.{line, at_least, limit_plus, is_none, settled, grown_base, grown_limit, raise, start_line, start, with_item, with_item_at, singles}
+use Rattle.lines.specs.Rule.{Limit, line, at_least, limit_plus, is_none, settled, grown_base, grown_limit, raise, start_line, start, with_item, with_item_at, singles}
 use Rattle.letters.specs.declared.letter.Letter.{Letter}
 use Rattle.letters.specs.declared.letter.Letter.TheVariants.{A, B, C, D, E, F}
 use Rattle.letters.specs.Letters.{letter_of, changes_unraised}
 use Rattle.letters.specs.declared.batch.Batch.{Batch}
 use Rattle.letters.specs.declared.batch.Batch.TheVariants.{OfSpan, Last}
-use Rattle.spans.specs.Work.{IsAbove, AtRest, Calm, letter_step, letter_steps}
+use Rattle.spans.specs.Work.{IsAbove, AtRest, Calm, letter_step, letter_steps, all_steps}
 use Rattle.spans.proofs.Parts.{all-zip}
 
 -- ---- an increase of nothing
 
 at-least-above : (base : ℕ) (limit : Limit) → IsAbove base limit → at_least base limit ≡ limit
 at-least-above base None a = refl
-at-least-above base (UpTo n) a = ap UpTo (omega arith)
+at-least-above base (Some n) a = ap Some (omega arith)
 
 plus-nothing : (base : ℕ) (limit : Limit) → limit_plus base 0 limit ≡ limit
 plus-nothing base None = refl
-plus-nothing base (UpTo n) = ap UpTo (add-zero n)
+plus-nothing base (Some n) = ap Some (add-zero n)
 
 unmarked : (marks : Bool) (limit : Limit) → (marks && (is_none limit && ltb 0 0)) ≡ false
 unmarked true None = refl
-unmarked true (UpTo n) = refl
+unmarked true (Some n) = refl
 unmarked false limit = refl
 
 base_stays : (l : Line) → grown_base l 0 ≡ l
@@ -87,15 +85,15 @@ lines_stay F true ls e calm = absurd (true≢false e)
 
 above-settled : (base : ℕ) (limit : Limit) → IsAbove base (at_least base limit)
 above-settled base None = tt
-above-settled base (UpTo n) = omega arith
+above-settled base (Some n) = omega arith
 
-above_more : (base increase : ℕ) (b : Bool) → IsAbove base (cond b (UpTo (base + increase)) None)
+above_more : (base increase : ℕ) (b : Bool) → IsAbove base (cond b (Some (base + increase)) None)
 above_more base increase true = omega arith
 above_more base increase false = tt
 
 above-plus : (base increase : ℕ) (limit : Limit) → IsAbove base limit → IsAbove base (limit_plus base increase limit)
 above-plus base increase None a = above_more base increase (ltb 0 increase)
-above-plus base increase (UpTo n) a = omega arith
+above-plus base increase (Some n) a = omega arith
 
 abbrev Settled : Line → Type 0
 Settled l = IsAbove l.base l.limit
@@ -117,28 +115,21 @@ settled-by-e = all-zip (letter_of E).grown AtRest Settled (λ (l : Line) (p : �
 calm-by-f : (ls : List Line) (ps : List ℕ) → All Settled ls → Calm (zip_with (letter_of F).grown ls ps)
 calm-by-f = all-zip (letter_of F).grown Settled AtRest (λ (l : Line) (p : ℕ) (s : Settled l). (above-plus l.base p l.limit s, refl))
 
-three-unmarked : (kind : Batch) (c : Constraint) (batch : List Measured) (ls : List Line) → All Unmarked ls → All Unmarked (letter_steps kind 3 c batch ls)
-unfolding letter_steps letter_step raise
+three-unmarked : (kind : Batch) (c : Constraint) (batch : List Measured) (ls : List Line) → All Unmarked ls → All Unmarked (letter_steps kind c batch (A ∷ B ∷ C ∷ []) ls)
+unfolding in_turn letter_step raise
 three-unmarked kind (Definite n) batch ls u = bases-unmarked _ _ (bases-unmarked _ _ u)
 three-unmarked kind MinContent batch ls u = bases-unmarked _ _ (bases-unmarked _ _ u)
 three-unmarked kind MaxContent batch ls u = bases-unmarked _ _ (bases-unmarked _ _ (bases-unmarked _ _ u))
 
 -- a batch that begins with calm lines has them again behind (d), and at its end
-half-calm : (kind : Batch) (c : Constraint) (batch : List Measured) (ls : List Line) → Calm ls → Calm (letter_steps kind 4 c batch ls)
-unfolding letter_steps letter_step raise
+pub half-calm : (kind : Batch) (c : Constraint) (batch : List Measured) (ls : List Line) → Calm ls → Calm (letter_steps kind c batch (A ∷ B ∷ C ∷ D ∷ []) ls)
+unfolding in_turn letter_step raise
 half-calm kind c batch ls r = calm-by-d _ _ (three-unmarked kind c batch ls (all_map AtRest Unmarked (λ (l : Line) (k : AtRest l). k.1) ls r))
 
-pub batch-calm : (kind : Batch) (c : Constraint) (batch : List Measured) (ls : List Line) → Calm ls → Calm (letter_steps kind 6 c batch ls)
-unfolding letter_steps letter_step raise
+pub batch-calm : (kind : Batch) (c : Constraint) (batch : List Measured) (ls : List Line) → Calm ls → Calm (all_steps kind c batch ls)
+unfolding in_turn letter_step raise
 batch-calm OfSpan c batch ls r = calm-by-f _ _ (settled-by-e _ _ (half-calm OfSpan c batch ls r))
 batch-calm Last c batch ls r = half-calm Last c batch ls r
-
-pub still-calm : (kind : Batch) (c : Constraint) (batch : List Measured) (start ls : List Line) (k : ℕ) (moved : Bool) → Calm start → ls ≡ letter_steps kind k c batch start
-    → (moved ≡ false → Calm ls) → (moved && not (eqb k 4)) ≡ false → Calm ls
-still-calm kind c batch start ls k false r e calm off = calm refl
-still-calm kind c batch start ls k true r e calm off =
-    let four : k ≡ 4 = eqb-true k 4 (not-false _ off) in
-    subst Calm (sym (e ∙ ap (λ (n : ℕ). letter_steps kind n c batch start) four)) (half-calm kind c batch start r)
 
 -- ---- step 2
 

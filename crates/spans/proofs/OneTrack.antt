@@ -9,16 +9,12 @@ use Rattle.laws.specs.Alls.{all-image-at}
 use Rattle.rounds.specs.Rule.{most_tracks}
 use Rattle.kinds.specs.Kinds.{Row}
 use Rattle.kinds.specs.declared.constraint.Constraint.{Constraint}
-use Rattle.lines.specs.declared.limit.Limit.{Limit}
 use Rattle.lines.specs.declared.line.Line.{Line}
 use Rattle.lines.specs.declared.measured.Measured.{Measured}
-use Rattle.lines.specs.declared.passes.Pass.TheVariants.{Settle}
-use Rattle.lines.specs.Rule.{line, settled, base_asked, limit_asked, with_item, with_item_at, singles}
-use Rattle.lines.specs.Rows.{line_of, lines_of, pass_of}
+use Rattle.lines.specs.Rule.{Limit, line, settled, base_asked, limit_asked, with_item, with_item_at, singles}
+use Rattle.lines.specs.Rows.{line_of, lines_of}
 use Rattle.lines.specs.Fits.{LineFits, LinesFit, MeasuredFits, MeasuredFit}
-use Rattle.lines.specs.Chains.{Rising, part_at, chained}
 use Rattle.lines.proofs.Fits.{with-item-fits, singles-fit}
-use Rattle.lines.proofs.Chains.{all-part}
 use Rattle.spans.proofs.Parts.{map-part-one, change-set}
 
 -- the part of one row, at the row of line l
@@ -55,14 +51,9 @@ module _ (c : Constraint) (item : Measured) (rows : List Row) (v : Row) (l : Lin
       let e : lines_of (set rows item.start v) ≡ with_item_at c item (lines_of rows) = change-set line_of (with_item c item) item.start rows v [] h item-line in
       (e, rw e (with-item-fits c (length rows) item (lines_of rows) g f))
 
--- the item at the head of a chain that fits, on as many lines
-pub head-fits : (rows : List Row) (nexts : List ℕ) (i : ℕ) → Rising nexts → i < length nexts → (n m : ℕ) → m ≡ n
-    → MeasuredFit n (chained rows nexts i) → MeasuredFit m (part_at rows i)
-head-fits rows nexts i r h n m e f = rw e (all-part rows nexts i r h (MeasuredFits n) f)
-
 -- all items taken, then the lines settled
 pub singles-made : (c : Constraint) (n : ℕ) (is : List Measured) (ls taken out : List Line) → taken ≡ in_turn (with_item_at c) is ls
-    → out ≡ map (pass_of Settle) taken → MeasuredFit n is → LinesFit ls → (out ≡ singles c is ls) × LinesFit out
+    → out ≡ map settled taken → MeasuredFit n is → LinesFit ls → (out ≡ singles c is ls) × LinesFit out
 unfolding singles
 singles-made c n is ls taken out t o f g =
     let e : out ≡ singles c is ls = o ∙ ap (map settled) t in

@@ -1,9 +1,8 @@
 -- One letter: the increases that were planned, and the lines that they raise. Assumes nothing.
 use mathlib.Core.Path.{◌≡◌, refl, sym, ap, ◌∙◌, subst}
-use mathlib.Core.Bool.{Bool, true, false}
+use mathlib.Core.Bool.{Bool, true, false, true≢false}
 use mathlib.Core.List.{List, [], ◌∷◌, zip_with}
 use Prim.Native.Nat.{ℕ, ◌+◌, ◌≤◌, ◌<◌}
-use native.Mathlib.Numerals.{add-one}
 use lib.ListN.{length, get_or, replicate, length-map}
 use Rattle.laws.specs.Lists.{in_turn}
 use Rattle.kinds.specs.Kinds.{Row}
@@ -24,8 +23,9 @@ use Rattle.lines.proofs.Increases.{length-increases}
 use Rattle.letters.proofs.Keeps.{increases-fit-rows, raise-fits}
 use Rattle.letters.proofs.Shared.{zeros-as, zeros-of-lines}
 use native.Mathlib.Omega.{arith}
-use Rattle.lines.specs.Chains.{ChainFits, BatchesFit}
-use Rattle.spans.specs.Work.{Working, letter_at, letter_runs, letter_step, letter_steps}
+use borrow.Author.Tests.{eqb-true}
+use lib.Dec.{eqb}
+use Rattle.spans.specs.Work.{Working, BatchesOn, letter_runs, letter_step, all_steps}
 
 module _ (kind : Batch) (letter : Letter) (c : Constraint) (batch : List Measured) (rows : List Row) (start planned : List ℕ)
     (none : start ≡ replicate (length rows) 0) (told : planned ≡ in_turn (increased_by (shares_in kind) (letter_of letter) c (lines_of rows)) batch start) where
@@ -58,27 +58,22 @@ module _ (kind : Batch) (letter : Letter) (c : Constraint) (batch : List Measure
       sym stay
       ∙ ap (zip_with (letter_of letter).grown (lines_of rows)) (sym (zeros-of-lines rows (length rows) start none refl) ∙ sym same ∙ planned-is)
 
--- ---- the letters by number
+-- ---- letter by letter
 
-module _ (kind : Batch) (k : ℕ) (c : Constraint) (batch : List Measured) (ls : List Line) where
+module _ (kind : Batch) (letter : Letter) (c : Constraint) (batch : List Measured) (ls : List Line) where
   -- a letter that is not run changes nothing
-  pub step_left : {b : Bool} → b ≡ letter_runs kind k c → b ≡ false → ls ≡ letter_step kind k c batch ls
+  pub step_left : {b : Bool} → b ≡ letter_runs kind c letter → b ≡ false → ls ≡ letter_step kind c batch letter ls
   unfolding letter_step
   step_left e f = rw (sym e ∙ f) refl
 
-  pub step-taken : {b : Bool} {letter : Letter} (out : List Line) → b ≡ letter_runs kind k c → b ≡ true → letter ≡ letter_at k
-      → out ≡ raise (shares_in kind) c batch (letter_of letter) ls → out ≡ letter_step kind k c batch ls
+  pub step-taken : {b : Bool} (out : List Line) → b ≡ letter_runs kind c letter → b ≡ true
+      → out ≡ raise (shares_in kind) c batch (letter_of letter) ls → out ≡ letter_step kind c batch letter ls
   unfolding letter_step
-  step-taken out e f l r = rw (sym e ∙ f) (r ∙ ap (λ (m : Letter). raise (shares_in kind) c batch (letter_of m) ls) l)
+  step-taken out e f r = rw (sym e ∙ f) r
 
-  -- one more
-  pub steps-more : (start out : List Line) → ls ≡ letter_steps kind k c batch start → out ≡ letter_step kind k c batch ls → out ≡ letter_steps kind (k + 1) c batch start
-  unfolding letter_steps
-  steps-more start out e r = rw (add-one k) (r ∙ ap (letter_step kind k c batch) e)
-
--- all six are the letters of the batch
-steps_all : (kind : Batch) (c : Constraint) (batch : List Measured) (ls : List Line) → letter_steps kind 6 c batch ls ≡ in_turn (raise (shares_in kind) c batch) (letters_in kind c) ls
-unfolding letter_steps letter_step in_turn
+-- all steps are the letters of the batch
+steps_all : (kind : Batch) (c : Constraint) (batch : List Measured) (ls : List Line) → all_steps kind c batch ls ≡ in_turn (raise (shares_in kind) c batch) (letters_in kind c) ls
+unfolding letter_step in_turn
 steps_all OfSpan (Definite n) batch ls = refl
 steps_all OfSpan MinContent batch ls = refl
 steps_all OfSpan MaxContent batch ls = refl
@@ -86,16 +81,17 @@ steps_all Last (Definite n) batch ls = refl
 steps_all Last MinContent batch ls = refl
 steps_all Last MaxContent batch ls = refl
 
-pub batch-of-steps : (kind : Batch) (c : Constraint) (batch : List Measured) (i : Measured) (is : List Measured) (ls out : List Line) → batch ≡ i ∷ is
-    → out ≡ letter_steps kind 6 c batch ls → out ≡ batched_in kind c batch ls
+pub batch-of-steps : (kind : Batch) (c : Constraint) (batch : List Measured) (ls out : List Line) → eqb (length batch) 0 ≡ false
+    → out ≡ all_steps kind c batch ls → out ≡ batched_in kind c batch ls
 unfolding batched
-batch-of-steps kind c batch i is ls out e r =
-    r ∙ steps_all kind c batch ls ∙ rw e refl
+batch-of-steps kind c [] ls out e r = absurd (true≢false e)
+batch-of-steps kind c (i ∷ is) ls out e r = r ∙ steps_all kind c (i ∷ is) ls
 
 -- no item, no change
-pub batch-of-none : (kind : Batch) (c : Constraint) (batch : List Measured) (ls : List Line) → batch ≡ [] → ls ≡ batched_in kind c batch ls
+pub batch-of-none : (kind : Batch) (c : Constraint) (batch : List Measured) (ls : List Line) → eqb (length batch) 0 ≡ true → ls ≡ batched_in kind c batch ls
 unfolding batched
-batch-of-none kind c batch ls e = rw e refl
+batch-of-none kind c [] ls e = refl
+batch-of-none kind c (i ∷ is) ls e = let n = eqb-true (length (i ∷ is)) 0 e in absurd (omega arith)
 
 -- ---- the working store between letters
 
@@ -113,8 +109,5 @@ working-after {lines} {lines'} w l g r f z t =
       totals = t;
     }
 
-pub chain-fits-as : {m n : ℕ} (items : List Row) (nexts : List ℕ) (first : ℕ) → m ≡ n → ChainFits n items nexts first → ChainFits m items nexts first
-chain-fits-as items nexts first e f = record { long = f.long; rising = f.rising; fit = rw e f.fit }
-
-pub batches-fit-as : {m n : ℕ} (items : List Row) (heads nexts : List ℕ) → m ≡ n → BatchesFit n items heads nexts → BatchesFit m items heads nexts
-batches-fit-as items heads nexts e f = rw e f
+pub batches-on-as : {m n : ℕ} (bs : List (List Measured)) → m ≡ n → BatchesOn n bs → BatchesOn m bs
+batches-on-as bs e f = rw e f

@@ -1,18 +1,16 @@
 -- The working store of the steps on spans, what a letter's plan leaves in it, and one batch as the code goes about it. Assumes nothing.
-use Rattle.std.specs.Prelude.{◌≡◌, ℕ, zero, suc, ◌-◌, ◌≤◌, Bool, true, false, cond, ◌||◌, List, ltb, eqb, length}
+use Rattle.std.specs.Prelude.{◌≡◌, ℕ, ◌-◌, ◌<◌, ◌≤◌, Bool, true, false, cond, List, [], ◌∷◌, length, get_or, Some, None}
 use Rattle.rounds.specs.Rule.{most_tracks}
 use Rattle.kinds.specs.Kinds.{Row}
 use Rattle.kinds.specs.declared.constraint.Constraint.{Constraint}
 use Rattle.kinds.specs.declared.constraint.Constraint.TheVariants.{Definite, MinContent, MaxContent}
 use Rattle.laws.specs.Lists.{All, up_from, in_turn}
-use Rattle.lines.specs.declared.limit.Limit.{Limit}
-use Rattle.lines.specs.declared.limit.Limit.TheVariants.{None, UpTo}
 use Rattle.lines.specs.declared.line.Line.{Line}
 use Rattle.lines.specs.declared.measured.Measured.{Measured}
-use Rattle.lines.specs.Rule.{increased_by, raise}
+use Rattle.lines.specs.Rule.{Limit, increased_by, raise}
 use Rattle.lines.specs.Rows.{lines_of}
-use Rattle.lines.specs.Fits.{LinesFit}
-use Rattle.lines.specs.Chains.{batch_at}
+use Rattle.lines.specs.Fits.{LinesFit, MeasuredFit}
+use Rattle.lines.specs.Chains.{batches}
 use Rattle.letters.specs.declared.letter.Letter.{Letter}
 use Rattle.letters.specs.declared.letter.Letter.TheVariants.{A, B, C, D, E, F}
 use Rattle.letters.specs.Letters.{letter_of}
@@ -49,7 +47,7 @@ pub record Working (lines : List Row) (increases gains rests : List ℕ) (sums :
 
 abbrev pub IsAbove : ℕ → Limit → Type 0
 IsAbove base None = Unit {0}
-IsAbove base (UpTo n) = base ≤ n
+IsAbove base (Some n) = base ≤ n
 
 abbrev pub AtRest : Line → Type 0
 AtRest l = IsAbove l.base l.limit × (l.growable ≡ false)
@@ -57,15 +55,7 @@ AtRest l = IsAbove l.base l.limit × (l.growable ≡ false)
 abbrev pub Calm : List Line → Type 0
 Calm = All AtRest
 
--- ---- The letters by number
-
-abbrev pub letter_at : ℕ → Letter
-letter_at k =
-    cond (eqb k 0) A
-    (cond (eqb k 1) B
-    (cond (eqb k 2) C
-    (cond (eqb k 3) D
-    (cond (eqb k 4) E F))))
+-- ---- Letter by letter
 
 abbrev pub is_max_content : Constraint → Bool
 is_max_content (Definite n) = false
@@ -78,17 +68,32 @@ raises_limits_in OfSpan = true
 raises_limits_in Last = false
 
 -- and (c) under max-content only
-abbrev pub letter_runs : Batch → ℕ → Constraint → Bool
-letter_runs kind k c = cond (eqb k 2) (is_max_content c) (ltb k 4 || raises_limits_in kind)
+abbrev pub letter_runs : Batch → Constraint → Letter → Bool
+letter_runs kind c A = true
+letter_runs kind c B = true
+letter_runs kind c C = is_max_content c
+letter_runs kind c D = true
+letter_runs kind c E = raises_limits_in kind
+letter_runs kind c F = raises_limits_in kind
 
-unfoldable pub letter_step : Batch → ℕ → Constraint → List Measured → List Line → List Line
-letter_step kind k c batch ls = cond (letter_runs kind k c) (raise (shares_in kind) c batch (letter_of (letter_at k)) ls) ls
+unfoldable pub letter_step : Batch → Constraint → List Measured → Letter → List Line → List Line
+letter_step kind c batch letter ls = cond (letter_runs kind c letter) (raise (shares_in kind) c batch (letter_of letter) ls) ls
 
--- the first n letters, one after another
-unfoldable pub letter_steps : Batch → ℕ → Constraint → List Measured → List Line → List Line
-letter_steps kind zero c batch ls = ls
-letter_steps kind (suc n) c batch ls = letter_step kind n c batch (letter_steps kind n c batch ls)
+-- letters one after another
+abbrev pub letter_steps : Batch → Constraint → List Measured → List Letter → List Line → List Line
+letter_steps kind c batch = in_turn (letter_step kind c batch)
 
--- batch by batch in rising span, each from its head on
-abbrev pub longer_lines : Constraint → List Row → (heads nexts : List ℕ) → List Row → List Line
-longer_lines c items heads nexts lines = in_turn (λ (k : ℕ). batched_in OfSpan c (batch_at items heads nexts k)) (up_from 2 (length lines - 1)) (lines_of lines)
+-- all that a batch has
+abbrev pub all_steps : Batch → Constraint → List Measured → List Line → List Line
+all_steps kind c batch ls = letter_steps kind c batch (E ∷ F ∷ []) (letter_steps kind c batch (A ∷ B ∷ C ∷ D ∷ []) ls)
+
+-- ---- Batch by batch
+
+-- every batch but the first fits a board of n tracks
+pub record BatchesOn (n : ℕ) (bs : List (List Measured)) : Type 0 where
+  pub long : length bs ≡ batches n
+  pub fit : (k : ℕ) → 0 < k → k < batches n → MeasuredFit n (get_or bs k [])
+
+-- in rising span
+abbrev pub longer_lines : Constraint → List (List Measured) → List Row → List Line
+longer_lines c bs lines = in_turn (λ (k : ℕ). batched_in OfSpan c (get_or bs k [])) (up_from 2 (length lines - 1)) (lines_of lines)

@@ -1,23 +1,22 @@
-// Step 3: one batch of items, letter by letter.
+// Step 3: one batch of items, letter by letter. The store stays five slices and no struct: no heap, so all five are lent; a letter changes the
+// lines before it makes the totals anew, so that no invariant over them holds at each write; and a function on a struct of `&mut` would
+// have to promise of each field that it is the same slice as before.
 ghost use Rattle.std.specs.Prelude.{◌≡◌, false, [], ◌∷◌, length};
-ghost use Rattle.kinds.specs.Kinds.{item_of};
-ghost use Rattle.lines.specs.Rule.{complete, raise};
+ghost use Rattle.lines.specs.Rule.{raise};
 ghost use Rattle.lines.specs.Rows.{lines_of};
 ghost use Rattle.lines.specs.Fits.{MeasuredFits, MeasuredFit};
-ghost use Rattle.lines.specs.Chains.{chained, ChainFits, Whole, BatchesFit};
 ghost use Rattle.letters.specs.Letters.{letter_of};
 ghost use Rattle.letters.specs.Batches.{shares_in, batched_in};
-ghost use Rattle.spans.specs.Work.{Planning, Planned, Working, Calm, letter_at, letter_runs, letter_step, letter_steps, longer_lines};
+ghost use Rattle.spans.specs.Work.{Planning, Planned, Working, Calm, BatchesOn, letter_runs, letter_step, letter_steps, all_steps, longer_lines};
 
-use kinds::{Constraint, Item};
-use letters::{Batch, Letter, affects_some, apply, extra, lay_over, share_in, tally};
-use lines::Measured;
-use spanned::lacks_contribution;
+use kinds::Constraint;
+use letters::{Batch, Letter, Span, affects_some, apply, lay_over, share_in, tally};
+use lines::{Batches, Chain, Measured};
 
 // What one item gives each line that it spans is laid over the increases. Gains and rests are scratch, the sums are the lines'
 // totals. Whether anything was laid over comes back: an item that asks nothing, or of no affected line, gives nothing.
 fn plan_item(
-    batch: Batch,
+    kind: Batch,
     letter: Letter,
     constraint: Constraint,
     item: Measured,
@@ -28,84 +27,46 @@ fn plan_item(
     sums: &[[u64; 2]],
 ) -> bool
     requires { Planning lines.now increases.old gains.old rests.old sums.now × MeasuredFits (length lines.now) item }
-    ensures { Planned batch letter constraint lines.now (item ∷ []) increases.old increases.new result }
+    ensures { Planned kind letter constraint lines.now (item ∷ []) increases.old increases.new result }
 {
     let a = item.start as usize;
     let n = item.span as usize;
     let e = a + n;
     let on = &lines[a..e];
     let total = letter.total_between(sums[a], sums[e]);
-    let dots = extra(letter, constraint, item, on, total);
+    let dots = Span { lines: on }.extra(letter, constraint, item, total);
     if dots == 0 {
         return false;
     }
-    if !affects_some(batch, letter, on) {
+    if !affects_some(kind, letter, on) {
         return false;
     }
-    share_in(batch, letter, dots, on, &mut gains[..n], &mut rests[..n]);
+    share_in(kind, letter, dots, on, &mut gains[..n], &mut rests[..n]);
     lay_over(&gains[..n], &mut increases[a..e]);
     true
 }
 
-// The same for the item in a row; one that lacks a contribution takes no part.
-fn plan_part(
-    batch: Batch,
-    letter: Letter,
-    constraint: Constraint,
-    row: [u32; 7],
-    lines: &[[u32; 8]],
-    increases: &mut [u32],
-    gains: &mut [u32],
-    rests: &mut [u32],
-    sums: &[[u64; 2]],
-) -> bool
-    requires { Planning lines.now increases.old gains.old rests.old sums.now
-        × MeasuredFit (length lines.now) (complete (item_of row)) }
-    ensures { Planned batch letter constraint lines.now (complete (item_of row)) increases.old increases.new result }
-{
-    let item = Item::of_row(row);
-    if lacks_contribution(item) {
-        return false;
-    }
-    plan_item(
-        batch,
-        letter,
-        constraint,
-        Measured::of(item),
-        lines,
-        increases,
-        gains,
-        rests,
-        sums,
-    )
-}
-
 // The increases of a batch: each item in its turn looks at the lines as they were. Whether there are any comes back.
 fn plan_batch(
-    batch: Batch,
+    kind: Batch,
     letter: Letter,
     constraint: Constraint,
-    first: usize,
-    nexts: &[usize],
-    items: &[[u32; 7]],
+    batch: &Chain<'_>,
     lines: &[[u32; 8]],
     increases: &mut [u32],
     gains: &mut [u32],
     rests: &mut [u32],
     sums: &[[u64; 2]],
 ) -> bool
-    requires { Planning lines.now increases.old gains.old rests.old sums.now
-        × ChainFits (length lines.now) items.now nexts.now first }
-    ensures { Planned batch letter constraint lines.now (chained items.now nexts.now first) increases.old increases.new result }
+    requires { Planning lines.now increases.old gains.old rests.old sums.now × MeasuredFit (length lines.now) batch.now }
+    ensures { Planned kind letter constraint lines.now batch.now increases.old increases.new result }
 {
     let mut planned = false;
-    let mut i = first;
-    while i < items.len() {
-        let gives = plan_part(
-            batch, letter, constraint, items[i], lines, increases, gains, rests, sums,
+    for item in batch.walk() {
+        let gives = plan_item(
+            kind, letter, constraint, item, lines, increases, gains, rests, sums,
         );
         planned = planned | gives;
-        i = nexts[i];
     }
     planned
 }
@@ -114,13 +75,11 @@ fn plan_batch(
 // and after. Where nothing is planned a letter changes no calm line, and the first three change no line at all. `moved` says that
 // lines may not be calm; it comes back for the next letter.
 fn raise(
-    batch: Batch,
+    kind: Batch,
     letter: Letter,
     constraint: Constraint,
     moved: bool,
-    first: usize,
-    nexts: &[usize],
-    items: &[[u32; 7]],
+    batch: &Chain<'_>,
     lines: &mut [[u32; 8]],
     increases: &mut [u32],
     gains: &mut [u32],
@@ -128,14 +87,14 @@ fn raise(
     sums: &mut [[u64; 2]],
 ) -> bool
     requires { Working lines.old increases.old gains.old rests.old sums.old
-        × ChainFits (length lines.old) items.now nexts.now first
+        × MeasuredFit (length lines.old) batch.now
         × (moved ≡ false → Calm (lines_of lines.old)) }
-    ensures { (lines_of lines.new ≡ raise (shares_in batch) constraint (chained items.now nexts.now first) (letter_of letter) (lines_of lines.old))
+    ensures { (lines_of lines.new ≡ raise (shares_in kind) constraint batch.now (letter_of letter) (lines_of lines.old))
         × Working lines.new increases.new gains.new rests.new sums.new
         × (result ≡ false → Calm (lines_of lines.new)) }
 {
     let planned = plan_batch(
-        batch, letter, constraint, first, nexts, items, lines, increases, gains, rests, sums,
+        kind, letter, constraint, batch, lines, increases, gains, rests, sums,
     );
     let applies = planned | (moved & letter.changes_unraised());
     if !applies {
@@ -146,56 +105,24 @@ fn raise(
     true
 }
 
-fn letter_at(k: u32) -> Letter
-    ensures { result ≡ letter_at k }
-{
-    if k == 0 {
-        return Letter::A;
-    }
-    if k == 1 {
-        return Letter::B;
-    }
-    if k == 2 {
-        return Letter::C;
-    }
-    if k == 3 {
-        return Letter::D;
-    }
-    if k == 4 {
-        return Letter::E;
-    }
-    Letter::F
-}
-
 // (c) is run under max-content only, (e) and (f) not in the last batch.
-fn letter_runs(batch: Batch, k: u32, constraint: Constraint) -> bool
-    ensures { result ≡ letter_runs batch k constraint }
+fn letter_runs(kind: Batch, letter: Letter, constraint: Constraint) -> bool
+    ensures { result ≡ letter_runs kind constraint letter }
 {
-    if k == 2 {
-        return match constraint {
-            Constraint::Definite(_) => false,
-            Constraint::MinContent => false,
-            Constraint::MaxContent => true,
-        };
-    }
-    if k < 4 {
-        return true;
-    }
-    match batch {
-        Batch::OfSpan => true,
-        Batch::Last => false,
+    match letter {
+        Letter::C => matches!(constraint, Constraint::MaxContent),
+        Letter::E | Letter::F => matches!(kind, Batch::OfSpan),
+        _ => true,
     }
 }
 
-// Letter number k of a batch.
-fn raise_at(
-    batch: Batch,
-    k: u32,
+// One letter of a batch, where it is run.
+fn raise_where_run(
+    kind: Batch,
+    letter: Letter,
     constraint: Constraint,
     moved: bool,
-    first: usize,
-    nexts: &[usize],
-    items: &[[u32; 7]],
+    batch: &Chain<'_>,
     lines: &mut [[u32; 8]],
     increases: &mut [u32],
     gains: &mut [u32],
@@ -203,38 +130,78 @@ fn raise_at(
     sums: &mut [[u64; 2]],
 ) -> bool
     requires { Working lines.old increases.old gains.old rests.old sums.old
-        × ChainFits (length lines.old) items.now nexts.now first
+        × MeasuredFit (length lines.old) batch.now
         × (moved ≡ false → Calm (lines_of lines.old)) }
-    ensures { (lines_of lines.new ≡ letter_step batch k constraint (chained items.now nexts.now first) (lines_of lines.old))
+    ensures { (lines_of lines.new ≡ letter_step kind constraint batch.now letter (lines_of lines.old))
         × Working lines.new increases.new gains.new rests.new sums.new
         × (result ≡ false → Calm (lines_of lines.new)) }
 {
-    if !letter_runs(batch, k, constraint) {
+    if !letter_runs(kind, letter, constraint) {
         return moved;
     }
     raise(
-        batch,
-        letter_at(k),
-        constraint,
-        moved,
-        first,
-        nexts,
-        items,
-        lines,
-        increases,
-        gains,
-        rests,
-        sums,
+        kind, letter, constraint, moved, batch, lines, increases, gains, rests, sums,
     )
+}
+
+// Letters of a batch in their order, on lines that are calm.
+fn raise_letters(
+    kind: Batch,
+    letters: &[Letter],
+    constraint: Constraint,
+    batch: &Chain<'_>,
+    lines: &mut [[u32; 8]],
+    increases: &mut [u32],
+    gains: &mut [u32],
+    rests: &mut [u32],
+    sums: &mut [[u64; 2]],
+)
+    requires { Working lines.old increases.old gains.old rests.old sums.old
+        × MeasuredFit (length lines.old) batch.now
+        × Calm (lines_of lines.old) }
+    ensures { (lines_of lines.new ≡ letter_steps kind constraint batch.now letters.now (lines_of lines.old))
+        × Working lines.new increases.new gains.new rests.new sums.new }
+{
+    let mut moved = false;
+    for letter in letters {
+        moved = raise_where_run(
+            kind, *letter, constraint, moved, batch, lines, increases, gains, rests, sums,
+        );
+    }
+}
+
+fn raise_all(
+    kind: Batch,
+    constraint: Constraint,
+    batch: &Chain<'_>,
+    lines: &mut [[u32; 8]],
+    increases: &mut [u32],
+    gains: &mut [u32],
+    rests: &mut [u32],
+    sums: &mut [[u64; 2]],
+)
+    requires { Working lines.old increases.old gains.old rests.old sums.old
+        × MeasuredFit (length lines.old) batch.now
+        × Calm (lines_of lines.old) }
+    ensures { (lines_of lines.new ≡ all_steps kind constraint batch.now (lines_of lines.old))
+        × Working lines.new increases.new gains.new rests.new sums.new }
+{
+    let bases = [Letter::A, Letter::B, Letter::C, Letter::D];
+    raise_letters(
+        kind, &bases, constraint, batch, lines, increases, gains, rests, sums,
+    );
+    // (d) leaves every line calm.
+    let limits = [Letter::E, Letter::F];
+    raise_letters(
+        kind, &limits, constraint, batch, lines, increases, gains, rests, sums,
+    );
 }
 
 // One batch, all its letters; without items it changes nothing.
 pub fn batched(
-    batch: Batch,
+    kind: Batch,
     constraint: Constraint,
-    first: usize,
-    nexts: &[usize],
-    items: &[[u32; 7]],
+    batch: &Chain<'_>,
     lines: &mut [[u32; 8]],
     increases: &mut [u32],
     gains: &mut [u32],
@@ -242,57 +209,24 @@ pub fn batched(
     sums: &mut [[u64; 2]],
 )
     requires { Working lines.old increases.old gains.old rests.old sums.old
-        × ChainFits (length lines.old) items.now nexts.now first
-        × Whole items.now nexts.now first
+        × MeasuredFit (length lines.old) batch.now
         × Calm (lines_of lines.old) }
-    ensures { (lines_of lines.new ≡ batched_in batch constraint (chained items.now nexts.now first) (lines_of lines.old))
+    ensures { (lines_of lines.new ≡ batched_in kind constraint batch.now (lines_of lines.old))
         × Working lines.new increases.new gains.new rests.new sums.new
         × Calm (lines_of lines.new) }
 {
-    if first >= items.len() {
+    if batch.is_empty() {
         return;
     }
     raise_all(
-        batch, constraint, first, nexts, items, lines, increases, gains, rests, sums,
+        kind, constraint, batch, lines, increases, gains, rests, sums,
     );
 }
 
-fn raise_all(
-    batch: Batch,
-    constraint: Constraint,
-    first: usize,
-    nexts: &[usize],
-    items: &[[u32; 7]],
-    lines: &mut [[u32; 8]],
-    increases: &mut [u32],
-    gains: &mut [u32],
-    rests: &mut [u32],
-    sums: &mut [[u64; 2]],
-)
-    requires { Working lines.old increases.old gains.old rests.old sums.old
-        × ChainFits (length lines.old) items.now nexts.now first
-        × Calm (lines_of lines.old) }
-    ensures { (lines_of lines.new ≡ letter_steps batch 6 constraint (chained items.now nexts.now first) (lines_of lines.old))
-        × Working lines.new increases.new gains.new rests.new sums.new }
-{
-    let mut moved = false;
-    let mut k: u32 = 0;
-    while k < 6 {
-        // (d) leaves every line calm.
-        let still = moved & (k != 4);
-        moved = raise_at(
-            batch, k, constraint, still, first, nexts, items, lines, increases, gains, rests, sums,
-        );
-        k += 1;
-    }
-}
-
-// Batch by batch in rising span; `heads` has the first item of each.
+// Batch by batch in rising span.
 pub fn longer(
     constraint: Constraint,
-    heads: &[usize],
-    nexts: &[usize],
-    items: &[[u32; 7]],
+    batches: &Batches<'_>,
     lines: &mut [[u32; 8]],
     increases: &mut [u32],
     gains: &mut [u32],
@@ -300,26 +234,22 @@ pub fn longer(
     sums: &mut [[u64; 2]],
 )
     requires { Working lines.old increases.old gains.old rests.old sums.old
-        × BatchesFit (length lines.old) items.now heads.now nexts.now
+        × BatchesOn (length lines.old) batches.now
         × Calm (lines_of lines.old) }
-    ensures { (lines_of lines.new ≡ longer_lines constraint items.now heads.now nexts.now lines.old)
+    ensures { (lines_of lines.new ≡ longer_lines constraint batches.now lines.old)
         × Working lines.new increases.new gains.new rests.new sums.new
         × Calm (lines_of lines.new) }
 {
-    let mut k = 2;
-    while k <= lines.len() {
+    for k in 2..lines.len() + 1 {
         batched(
             Batch::OfSpan,
             constraint,
-            heads[k],
-            nexts,
-            items,
+            &batches.batch(k),
             lines,
             increases,
             gains,
             rests,
             sums,
         );
-        k += 1;
     }
 }

@@ -1,76 +1,79 @@
-// A list of the text: its length, then so many numbers or marks, into memory that the caller lends.
-ghost use Rattle.std.specs.Prelude.{◌≡◌, ◌≤◌, length};
-ghost use Rattle.texts.specs.Reading.{Onward, Counted};
+// A list of the text: its length, then so many entries, into memory that the caller lends.
+ghost use Rattle.std.specs.Prelude.{◌≡◌, ◌≤◌, length, IfOk};
 
-use crate::cursor::{Cursor, Fault, stopped};
-use crate::numbers::{read_mark, read_number};
-use crate::spans::Run;
+use crate::fault::{Fault, Stop};
+use crate::text::Text;
 
-#[derive(Clone, Copy)]
-pub struct List {
-    pub count: usize,
-    pub next: Cursor,
-}
+impl<'a> Text<'a> {
+    ghost use Rattle.texts.specs.Reading.{Onward, AllOnward};
 
-pub fn read_length(text: &[u8], from: Cursor, most: usize) -> List
-    requires { from.at ≤ length text.now }
-    ensures { (result.count ≤ most) × Onward text.now from.at result.next.at }
-{
-    let start = Run::Blanks.end(text, from.at);
-    let read = read_number(text, from);
-    let count = read.value as usize;
-    let next = read.next;
-    if count > most {
-        return List {
-            count: 0,
-            next: stopped(start, Fault::List(most)),
-        };
+    // The length of a list, of whose entries so many are kept.
+    pub(crate) fn length(&mut self, most: usize) -> Result<usize, Stop>
+        ensures onward { Onward self.old result self.new }
+        ensures bounded { IfOk result (λ n. n ≤ most) }
+    {
+        let at = self.start();
+        let count = self.number()? as usize;
+        if count > most {
+            let fault = Fault::List(most);
+            return Err(Stop { at, fault });
+        }
+        Ok(count)
     }
-    List { count, next }
-}
 
-// The place behind a list, whose last group must end there too.
-pub fn ended(next: Cursor, is_over: bool) -> Cursor
-    ensures { result.at ≡ next.at }
-{
-    if is_over && next.is_going() {
-        return stopped(next.at, Fault::Over);
+    // A list, each entry of which `entry` reads.
+    pub fn list<'b, T: Drop, F: Fn(&mut Text<'a>) -> Result<T, Stop>>(
+        &mut self,
+        into: &'b mut [T],
+        entry: F,
+    ) -> Result<&'b mut [T], Stop>
+        requires calls { F.IsAlwaysCallable entry }
+        requires entries { AllOnward (F.post entry) }
+        ensures onward { Onward self.old result self.new }
+        ensures bounded { IfOk result (λ xs. length xs.now ≤ length into.old) }
+    {
+        let count = self.length(into.len())?;
+        let list = &mut into[..count];
+        for place in list.iter_mut() {
+            *place = entry(self)?;
+        }
+        Ok(list)
     }
-    next
-}
 
-pub fn read_numbers(text: &[u8], from: Cursor, into: &mut [u32]) -> List
-    requires { from.at ≤ length text.now }
-    ensures counted { Counted result.count into.new }
-    ensures onward { Onward text.now from.at result.next.at }
-{
-    let list = read_length(text, from, into.len());
-    let count = list.count;
-    let mut next = list.next;
-    let mut i = 0;
-    while i < count {
-        let read = read_number(text, next);
-        into[i] = read.value;
-        next = read.next;
-        i += 1;
+    // So many numbers.
+    pub fn row<const N: usize>(&mut self) -> Result<[u32; N], Stop>
+        ensures { Onward self.old result self.new }
+    {
+        let mut row = [0; N];
+        for place in row.iter_mut() {
+            *place = self.number()?;
+        }
+        Ok(row)
     }
-    List { count, next }
-}
 
-pub fn read_marks(text: &[u8], from: Cursor, into: &mut [bool]) -> List
-    requires { from.at ≤ length text.now }
-    ensures counted { Counted result.count into.new }
-    ensures onward { Onward text.now from.at result.next.at }
-{
-    let list = read_length(text, from, into.len());
-    let count = list.count;
-    let mut next = list.next;
-    let mut i = 0;
-    while i < count {
-        let read = read_mark(text, next);
-        into[i] = read.is_set;
-        next = read.next;
-        i += 1;
+    // A list of rows; a row may be repeated, as in 3x5 9.
+    pub fn rows<'b, const N: usize>(
+        &mut self,
+        into: &'b mut [[u32; N]],
+    ) -> Result<&'b mut [[u32; N]], Stop>
+        ensures onward { Onward self.old result self.new }
+        ensures bounded { IfOk result (λ xs. length xs.now ≤ length into.old) }
+    {
+        let count = self.length(into.len())?;
+        let list = &mut into[..count];
+        let mut row = [0; N];
+        let mut left = 0;
+        for place in list.iter_mut() {
+            if left == 0 {
+                left = self.times()?;
+                row = self.row()?;
+            }
+            left -= 1;
+            *place = row;
+        }
+        if left > 0 {
+            return Err(self.stop(Fault::Over));
+        }
+        Ok(list)
     }
-    List { count, next }
 }

@@ -1,207 +1,83 @@
 // One number or one mark of the text, after the blanks and line ends before it; and how often what follows is repeated.
-ghost use Rattle.std.specs.Prelude.{◌≡◌, ◌-◌, ◌≤◌, ◌<◌, length};
-ghost use Rattle.texts.specs.Reading.{Onward};
-ghost use Rattle.texts.specs.Text.{is_end};
+ghost use Rattle.std.specs.Prelude.{◌≡◌, ◌≤◌, IfOk};
 
-use crate::cursor::{Cursor, Fault, going, stopped};
-use crate::spans::Run;
+use crate::fault::{Fault, Stop};
+use crate::runs::Run;
+use crate::text::Text;
 
-// One more than the largest number: where a longer number is held while its digits are read.
-const TOO_LARGE: u64 = 4294967296;
-
-#[derive(Clone, Copy)]
-pub struct Number {
-    pub value: u32,
-    pub next: Cursor,
+// The number that the digits say, if a u32 holds it. The low four bits of a digit are its value.
+fn decimal(digits: &[u8]) -> Option<u32> {
+    let mut value: u32 = 0;
+    for digit in digits {
+        value = value.checked_mul(10)?.checked_add(u32::from(*digit & 15))?;
+    }
+    Some(value)
 }
 
-#[derive(Clone, Copy)]
-pub struct Mark {
-    pub is_set: bool,
-    pub next: Cursor,
-}
+impl Text<'_> {
+    ghost use Rattle.texts.specs.Reading.{Onward};
 
-// How often what follows stands there; 0 only where reading has stopped.
-#[derive(Clone, Copy)]
-pub struct Times {
-    pub count: u32,
-    pub next: Cursor,
-}
-
-impl Times {
-    // How often after the first time.
-    pub fn again(self) -> u32
-        ensures { result ≡ self.count - 1 }
+    pub fn number(&mut self) -> Result<u32, Stop>
+        ensures { Onward self.old result self.new }
     {
-        let count = self.count;
-        if count > 0 { count - 1 } else { 0 }
+        let at = self.start();
+        let digits = self.take(Run::Digits);
+        if digits.is_empty() && self.ahead().is_none() {
+            return Err(self.stop(Fault::Early));
+        }
+        if digits.is_empty() || !self.is_end() {
+            return Err(self.stop(Fault::Number));
+        }
+        let fault = Fault::Large;
+        decimal(digits).ok_or(Stop { at, fault })
     }
-}
 
-fn wide(byte: u8) -> u64
-    ensures { result < 256 }
-{
-    byte as u64
-}
-
-// The number with one digit more, held at TOO_LARGE. The low four bits of a digit are its value.
-fn with_digit(value: u64, digit: u8) -> u64
-    requires { value ≤ 4294967296 }
-    ensures { result ≤ 4294967296 }
-{
-    let longer = value * 10 + wide(digit & 15);
-    if longer < TOO_LARGE {
-        longer
-    } else {
-        TOO_LARGE
+    // A number up to the last; `fault` says what is wrong with one above it.
+    fn number_to(&mut self, last: u32, fault: Fault) -> Result<u32, Stop>
+        ensures onward { Onward self.old result self.new }
+        ensures bounded { IfOk result (λ n. n ≤ last) }
+    {
+        let at = self.start();
+        let number = self.number()?;
+        if number > last {
+            return Err(Stop { at, fault });
+        }
+        Ok(number)
     }
-}
 
-fn decimal(digits: &[u8]) -> u64 {
-    let mut value: u64 = 0;
-    let mut i = 0;
-    while i < digits.len() {
-        value = with_digit(value, digits[i]);
-        i += 1;
+    pub fn mark(&mut self) -> Result<bool, Stop>
+        ensures { Onward self.old result self.new }
+    {
+        let number = self.number_to(1, Fault::Mark)?;
+        Ok(number == 1)
     }
-    value
-}
 
-// A number ends at a blank, a line end or the end of the text.
-pub(crate) fn is_end(text: &[u8], at: usize) -> bool
-    ensures { result ≡ is_end text.now at }
-{
-    if at < text.len() {
-        Run::Blanks.has(text[at])
-    } else {
-        true
+    // The number of a call, of which the last is given.
+    pub fn call(&mut self, last: u32) -> Result<u32, Stop>
+        ensures onward { Onward self.old result self.new }
+        ensures named { IfOk result (λ n. n ≤ last) }
+    {
+        self.number_to(last, Fault::Call)
     }
-}
 
-// What is wrong where no digit stands.
-fn missing(text: &[u8], at: usize) -> Fault {
-    if at < text.len() {
-        Fault::Number
-    } else {
-        Fault::Early
-    }
-}
-
-pub fn read_number(text: &[u8], from: Cursor) -> Number
-    requires { from.at ≤ length text.now }
-    ensures { Onward text.now from.at result.next.at }
-{
-    if !from.is_going() {
-        return Number {
-            value: 0,
-            next: from,
+    // A number with an x after it, as in 3x, says how often what follows stands there; without one it is once.
+    pub fn times(&mut self) -> Result<u32, Stop>
+        ensures onward { Onward self.old result self.new }
+        ensures some { IfOk result (λ n. 1 ≤ n) }
+    {
+        let at = self.start();
+        let digits = self.take(Run::Digits);
+        let Some(b'x') = self.ahead() else {
+            self.at = at;
+            return Ok(1);
         };
-    }
-    let start = Run::Blanks.end(text, from.at);
-    let end = Run::Digits.end(text, start);
-    if start == end {
-        return Number {
-            value: 0,
-            next: stopped(start, missing(text, start)),
-        };
-    }
-    if !is_end(text, end) {
-        return Number {
-            value: 0,
-            next: stopped(end, Fault::Number),
-        };
-    }
-    let value = decimal(&text[start..end]);
-    if value >= TOO_LARGE {
-        return Number {
-            value: 0,
-            next: stopped(start, Fault::Large),
-        };
-    }
-    Number {
-        value: value as u32,
-        next: going(end),
-    }
-}
-
-pub fn read_mark(text: &[u8], from: Cursor) -> Mark
-    requires { from.at ≤ length text.now }
-    ensures { Onward text.now from.at result.next.at }
-{
-    let start = Run::Blanks.end(text, from.at);
-    let read = read_number(text, from);
-    let next = read.next;
-    if read.value > 1 {
-        return Mark {
-            is_set: false,
-            next: stopped(start, Fault::Mark),
-        };
-    }
-    Mark {
-        is_set: read.value == 1,
-        next,
-    }
-}
-
-// The number of a call, of which the last is given.
-pub fn read_call(text: &[u8], from: Cursor, last: u32) -> Number
-    requires { from.at ≤ length text.now }
-    ensures { Onward text.now from.at result.next.at }
-{
-    let start = Run::Blanks.end(text, from.at);
-    let read = read_number(text, from);
-    if read.value > last {
-        return Number {
-            value: 0,
-            next: stopped(start, Fault::Call),
-        };
-    }
-    read
-}
-
-fn once(at: usize) -> Times
-    ensures { result.next.at ≡ at }
-{
-    Times {
-        count: 1,
-        next: going(at),
-    }
-}
-
-// A number with an x after it, as in 3x, says how often; without one it is once.
-pub fn read_times(text: &[u8], from: Cursor) -> Times
-    requires { from.at ≤ length text.now }
-    ensures { Onward text.now from.at result.next.at }
-{
-    if !from.is_going() {
-        return Times {
-            count: 0,
-            next: from,
-        };
-    }
-    let start = Run::Blanks.end(text, from.at);
-    let end = Run::Digits.end(text, start);
-    if end == text.len() {
-        return once(start);
-    }
-    if text[end] != b'x' {
-        return once(start);
-    }
-    let count = decimal(&text[start..end]);
-    if count == 0 {
-        return Times {
-            count: 0,
-            next: stopped(start, Fault::Times),
-        };
-    }
-    if count >= TOO_LARGE {
-        return Times {
-            count: 0,
-            next: stopped(start, Fault::Times),
-        };
-    }
-    Times {
-        count: count as u32,
-        next: going(end + 1),
+        self.at += 1;
+        match decimal(digits) {
+            Some(count) if count > 0 => Ok(count),
+            _ => Err(Stop {
+                at,
+                fault: Fault::Times,
+            }),
+        }
     }
 }

@@ -1,6 +1,5 @@
--- the board, the fill, the sheet
+-- the board, the sheet
 pub mod Board
-pub mod Fill
 pub mod Sheets
 -- the float routines
 pub mod Told

@@ -1,13 +1,11 @@
 -- What a float function of the C face leaves: its answer, and what then stands in everything that was lent to be written. The answer is 0,
 -- or the number of a refusal; only a refusal writes the place, and nothing else. Assumes nothing.
 use Rattle.std.specs.Prelude.{ℕ, Bool, List, Float}
-use Rattle.float_track.specs.declared.space.OptionalSize.{OptionalSize}
+use Rattle.std.specs.Prelude.{Option, Some, None}
+use Rattle.float_track.specs.declared.space.AvailableSpace.{AvailableSpace}
+use Rattle.float_gutters.specs.declared.AlignContent.{AlignContent}
 use Rattle.float_track.specs.Track.{row_of}
 use Rattle.floats.specs.Rule.{Told, number, sized, flushed, refused, Outcome, outcome, gutter_call, maximise_call, stretch_call}
-use Rattle.torrivask.specs.declared.words.SpaceWord.{SpaceWord}
-use Rattle.torrivask.specs.declared.words.SpaceWord.TheVariants as space
-use Rattle.torrivask.specs.declared.words.AlignmentWord.{AlignmentWord}
-use Rattle.torrivask.specs.declared.words.AlignmentWord.TheVariants as alignment
 
 -- ---- A number: the gutter adjustment, the size of an fr
 
@@ -102,14 +100,14 @@ marked_face (refused n at) row mark place = marked_left n row mark at
 abbrev pub unlisted : Told
 unlisted = refused 4 0
 
-abbrev pub gutter_face : AlignmentWord → OptionalSize → List Bool → List Float → Told
-gutter_face (alignment.Listed listed) inner known estimates = gutter_call listed inner known estimates
-gutter_face alignment.Unlisted inner known estimates = unlisted
+abbrev pub gutter_face : Option AlignContent → Option Float → List Bool → List Float → Told
+gutter_face (Some listed) inner known estimates = gutter_call listed inner known estimates
+gutter_face None inner known estimates = unlisted
 
-abbrev pub maximise_face : List (List Float) → List Float → SpaceWord → Outcome
-maximise_face rows fits (space.Listed listed) = maximise_call rows fits listed
-maximise_face rows fits space.Unlisted = outcome unlisted rows
+abbrev pub maximise_face : List (List Float) → List Float → Option AvailableSpace → Outcome
+maximise_face rows fits (Some listed) = maximise_call rows fits listed
+maximise_face rows fits None = outcome unlisted rows
 
-abbrev pub stretch_face : List (List Float) → List Bool → OptionalSize → SpaceWord → Outcome
-stretch_face rows autos minimum (space.Listed listed) = stretch_call rows autos minimum listed
-stretch_face rows autos minimum space.Unlisted = outcome unlisted rows
+abbrev pub stretch_face : List (List Float) → List Bool → Option Float → Option AvailableSpace → Outcome
+stretch_face rows autos minimum (Some listed) = stretch_call rows autos minimum listed
+stretch_face rows autos minimum None = outcome unlisted rows

@@ -3,8 +3,6 @@ ghost use Rattle.std.specs.Prelude.{◌≡◌};
 ghost use Rattle.board.specs.Rule.{board_call};
 ghost use Rattle.torrivask.specs.Board.{board_left, board_face};
 
-use board::{BoardAnswer, Free};
-
 #[unsafe(no_mangle)]
 pub extern "C" fn torrivask_board(
     sheet: &[u8],
@@ -17,28 +15,17 @@ pub extern "C" fn torrivask_board(
 ) -> u32
     ensures { board_left result sizes.new tracks.new definite.new free.new rounds.new place.new ≡ board_face (board_call sheet.now sizes.old) tracks.old definite.old free.old rounds.old place.old }
 {
-    let answer = board::board(sheet, sizes);
-    match answer {
-        BoardAnswer::Board {
-            tracks: count,
-            free: left,
-            rounds: passes,
-        } => {
-            *tracks = count as u32;
-            *rounds = passes;
-            match left {
-                Free::None => {
-                    *definite = false;
-                    0
-                }
-                Free::Dots(dots) => {
-                    *definite = true;
-                    *free = dots;
-                    0
-                }
+    match board::board(sheet, sizes) {
+        Ok(board) => {
+            *tracks = board.tracks as u32;
+            *rounds = board.rounds;
+            *definite = board.free.is_some();
+            if let Some(dots) = board.free {
+                *free = dots;
             }
+            0
         }
-        BoardAnswer::Refused(refusal) => {
+        Err(refusal) => {
             *place = refusal.place() as u64;
             refusal.number()
         }

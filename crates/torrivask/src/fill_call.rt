@@ -3,8 +3,6 @@ ghost use Rattle.std.specs.Prelude.{◌≡◌};
 ghost use Rattle.fill.specs.Rule.{fill_call};
 ghost use Rattle.torrivask.specs.Fill.{fill_left, fill_face};
 
-use fill::FillAnswer;
-
 #[unsafe(no_mangle)]
 pub extern "C" fn torrivask_fill(
     dots: u32,
@@ -18,18 +16,14 @@ pub extern "C" fn torrivask_fill(
 ) -> u32
     ensures { fill_left result gains.new leftover.new rounds.new place.new ≡ fill_face (fill_call dots affected.now limited.now rooms.now gains.old) leftover.old rounds.old place.old }
 {
-    let answer = fill::fill(dots, affected, limited, rooms, gains);
-    match answer {
-        FillAnswer::Filled {
-            leftover: left,
-            rounds: passes,
-        } => {
-            *leftover = left;
-            *rounds = passes;
+    match fill::fill(dots, affected, limited, rooms, gains) {
+        Ok(filled) => {
+            *leftover = filled.leftover;
+            *rounds = filled.rounds;
             0
         }
-        FillAnswer::Refused(refusal) => {
-            *place = refusal.place() as u64;
+        Err(refusal) => {
+            *place = u64::from(refusal.place());
             refusal.number()
         }
     }

@@ -1,13 +1,32 @@
 // The float routines. A track is a row of five floats: base size, growth limit, the planned increase of each, incurred
 // increase. 4 is a kind of space or an alignment that is not listed; it comes before every other refusal, at place 0.
 ghost use Rattle.std.specs.Prelude.{◌≡◌, false};
+ghost use Rattle.float_domain.specs.Answer.{number_of, place_of};
 ghost use Rattle.float_track.specs.Track.{track_of};
 ghost use Rattle.floats.specs.Rule.{flush_base_call, flush_limit_call, distribution_call, fr_call};
 ghost use Rattle.torrivask.specs.Words.{size_as, space_as, alignment_as};
 ghost use Rattle.torrivask.specs.Face.{track_left, track_face, marked_left, marked_face, number_left, number_face, shared_left, shared_face, tracks_left, tracks_face, gutter_face, maximise_face, stretch_face};
 
-use crate::words::{AlignmentWord, SpaceWord, alignment_of, size_of, space_of};
-use floats::{FlushAnswer, NumberAnswer, Track, TracksAnswer};
+use crate::words::{alignment_of, size_of, space_of};
+use floats::{Refusal, Track};
+
+// A call that was refused: its number, with its place written.
+fn refused(refusal: Refusal, place: &mut u64) -> u32
+    ensures code { result ≡ number_of refusal }
+    ensures at { place.new ≡ place_of refusal }
+{
+    *place = refusal.place() as u64;
+    refusal.number()
+}
+
+// A word that is not listed.
+fn unlisted(place: &mut u64) -> u32
+    ensures code { result ≡ 4 }
+    ensures at { place.new ≡ 0 }
+{
+    *place = 0;
+    4
+}
 
 #[unsafe(no_mangle)]
 pub extern "C" fn torrivask_flush_planned_base_size_increases(
@@ -16,16 +35,12 @@ pub extern "C" fn torrivask_flush_planned_base_size_increases(
 ) -> u32
     ensures { track_left result track.new place.new ≡ track_face (flush_base_call (track_of track.old false)) track.old place.old }
 {
-    let answer = floats::flush_planned_base_size_increases(Track::new(*track, false));
-    match answer {
-        FlushAnswer::Flushed(flushed) => {
+    match floats::flush_planned_base_size_increases(Track::new(*track, false)) {
+        Ok(flushed) => {
             *track = flushed.row();
             0
         }
-        FlushAnswer::Refused(refusal) => {
-            *place = refusal.place() as u64;
-            refusal.number()
-        }
+        Err(refusal) => refused(refusal, place),
     }
 }
 
@@ -38,17 +53,13 @@ pub extern "C" fn torrivask_flush_planned_growth_limit_increases(
 ) -> u32
     ensures { marked_left result track.new growable.new place.new ≡ marked_face (flush_limit_call (track_of track.old growable.old) mark) track.old growable.old place.old }
 {
-    let answer = floats::flush_planned_growth_limit_increases(Track::new(*track, *growable), mark);
-    match answer {
-        FlushAnswer::Flushed(flushed) => {
+    match floats::flush_planned_growth_limit_increases(Track::new(*track, *growable), mark) {
+        Ok(flushed) => {
             *track = flushed.row();
             *growable = flushed.infinitely_growable;
             0
         }
-        FlushAnswer::Refused(refusal) => {
-            *place = refusal.place() as u64;
-            refusal.number()
-        }
+        Err(refusal) => refused(refusal, place),
     }
 }
 
@@ -64,28 +75,16 @@ pub extern "C" fn torrivask_compute_alignment_gutter_adjustment(
 ) -> u32
     ensures { number_left result gutter.new place.new ≡ number_face (gutter_face (alignment_as alignment) (size_as given inner) known.now estimates.now) gutter.old place.old }
 {
-    let word = alignment_of(alignment);
+    let Some(listed) = alignment_of(alignment) else {
+        return unlisted(place);
+    };
     let size = size_of(given, inner);
-    match word {
-        AlignmentWord::Unlisted => {
-            *place = 0;
-            4
+    match floats::compute_alignment_gutter_adjustment(listed, size, known, estimates) {
+        Ok(x) => {
+            *gutter = x;
+            0
         }
-        AlignmentWord::Listed(listed) => {
-            let answer = floats::compute_alignment_gutter_adjustment(
-                listed, size, known, estimates,
-            );
-            match answer {
-                NumberAnswer::Number(x) => {
-                    *gutter = x;
-                    0
-                }
-                NumberAnswer::Refused(refusal) => {
-                    *place = refusal.place() as u64;
-                    refusal.number()
-                }
-            }
-        }
+        Err(refusal) => refused(refusal, place),
     }
 }
 
@@ -111,14 +110,11 @@ pub extern "C" fn torrivask_distribute_space_up_to_limits(
         limits,
     );
     match answer {
-        NumberAnswer::Number(x) => {
+        Ok(x) => {
             *left = x;
             0
         }
-        NumberAnswer::Refused(refusal) => {
-            *place = refusal.place() as u64;
-            refusal.number()
-        }
+        Err(refusal) => refused(refusal, place),
     }
 }
 
@@ -133,16 +129,12 @@ pub extern "C" fn torrivask_find_size_of_fr(
 ) -> u32
     ensures { number_left result size.new place.new ≡ number_face (fr_call tracks.now flexible.now factors.now space) size.old place.old }
 {
-    let answer = floats::find_size_of_fr(tracks, flexible, factors, space);
-    match answer {
-        NumberAnswer::Number(x) => {
+    match floats::find_size_of_fr(tracks, flexible, factors, space) {
+        Ok(x) => {
             *size = x;
             0
         }
-        NumberAnswer::Refused(refusal) => {
-            *place = refusal.place() as u64;
-            refusal.number()
-        }
+        Err(refusal) => refused(refusal, place),
     }
 }
 
@@ -156,22 +148,12 @@ pub extern "C" fn torrivask_maximise_tracks(
 ) -> u32
     ensures { tracks_left result tracks.new place.new ≡ tracks_face (maximise_face tracks.old fits.now (space_as kind space)) place.old }
 {
-    let word = space_of(kind, space);
-    match word {
-        SpaceWord::Unlisted => {
-            *place = 0;
-            4
-        }
-        SpaceWord::Listed(listed) => {
-            let answer = floats::maximise_tracks(tracks, fits, listed);
-            match answer {
-                TracksAnswer::Sized => 0,
-                TracksAnswer::Refused(refusal) => {
-                    *place = refusal.place() as u64;
-                    refusal.number()
-                }
-            }
-        }
+    let Some(listed) = space_of(kind, space) else {
+        return unlisted(place);
+    };
+    match floats::maximise_tracks(tracks, fits, listed) {
+        Ok(()) => 0,
+        Err(refusal) => refused(refusal, place),
     }
 }
 
@@ -187,22 +169,12 @@ pub extern "C" fn torrivask_stretch_auto_tracks(
 ) -> u32
     ensures { tracks_left result tracks.new place.new ≡ tracks_face (stretch_face tracks.old autos.now (size_as given minimum) (space_as kind space)) place.old }
 {
-    let word = space_of(kind, space);
+    let Some(listed) = space_of(kind, space) else {
+        return unlisted(place);
+    };
     let size = size_of(given, minimum);
-    match word {
-        SpaceWord::Unlisted => {
-            *place = 0;
-            4
-        }
-        SpaceWord::Listed(listed) => {
-            let answer = floats::stretch_auto_tracks(tracks, autos, size, listed);
-            match answer {
-                TracksAnswer::Sized => 0,
-                TracksAnswer::Refused(refusal) => {
-                    *place = refusal.place() as u64;
-                    refusal.number()
-                }
-            }
-        }
+    match floats::stretch_auto_tracks(tracks, autos, size, listed) {
+        Ok(()) => 0,
+        Err(refusal) => refused(refusal, place),
     }
 }

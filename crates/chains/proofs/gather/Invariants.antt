@@ -1,4 +1,4 @@
--- The loop of `gather`: what it keeps true, and what falls.
+-- The loop of `gather`: what it keeps true.
 use mathlib.Core.List.{map}
 use Rattle.kinds.specs.Kinds.{track_of}
 use Rattle.chains.proofs.Turns.{Chained}
@@ -6,6 +6,3 @@ use Rattle.chains.proofs.gather.Given as goal
 
 abbrev pub invariant-loop-i : goal.invariant-loop-i
 invariant-loop-i l = Chained (map track_of l.tracks) l.items l.heads l.nexts l.i
-
-abbrev pub decreases-loop-i : goal.decreases-loop-i
-decreases-loop-i l = l.i

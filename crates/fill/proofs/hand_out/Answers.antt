@@ -3,4 +3,4 @@ use Rattle.fill.proofs.Call.{handed}
 use Rattle.fill.proofs.hand_out.Goals as goal
 
 pub returns : goal.returns
-returns c = handed _ _ _ _ _ _ _ _ _ c.load.ensures c.run_rounds-done.ensures c.to_gains.ensures
+returns c = handed _ c.args.tracks.now _ _ _ _ _ c.load.ensures c.run_rounds-done.ensures c.to_gains.ensures

@@ -8,4 +8,4 @@ use Rattle.flexible.proofs.Bounds.{fr-over-bounds}
 use Rattle.flexible.proofs.flex.Goals as goal
 
 pub expand-requires-clause-fr_fits : goal.expand-requires-clause-fr_fits
-expand-requires-clause-fr_fits c = subst FrFits (sym c.fr_over-fr.ensures) (fr-over-bounds (lines_of c.args.lines.now) (omega (arith, length-map c.args.lines.now line_of)) c.requires.store_fits.fits (length c.args.lines.now) c.args.e _ c.requires.total_value.1 c.requires.chain_fits.fit).fits
+expand-requires-clause-fr_fits c = subst FrFits (sym c.fr_over-fr.ensures) (fr-over-bounds (lines_of c.args.lines.now) (omega (arith, length-map c.args.lines.now line_of)) c.requires.store_fits.fits (length c.args.lines.now) c.args.e _ c.requires.total_value.1 c.requires.batch_fits).fits

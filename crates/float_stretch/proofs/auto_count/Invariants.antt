@@ -1,12 +1,9 @@
--- The loop of `auto_count`: what it keeps true, and what falls.
+-- The loop of `auto_count`: what it keeps true.
 use mathlib.Core.Path.{◌≡◌}
-use Prim.Native.Nat.{◌+◌, ◌-◌, ◌≤◌}
-use lib.ListN.{length, drop}
+use Prim.Native.Nat.{◌+◌, ◌≤◌}
+use lib.ListN.{drop}
 use Rattle.laws.specs.Marks.{number}
 use Rattle.float_stretch.proofs.auto_count.Given as goal
 
-abbrev pub invariant-loop-i : goal.invariant-loop-i
-invariant-loop-i l = (l.i ≤ length l.autos) × (l.count ≤ l.i) × (l.count + number (drop l.i l.autos) ≡ number l.autos)
-
-abbrev pub decreases-loop-i : goal.decreases-loop-i
-decreases-loop-i l = length l.autos - l.i
+abbrev pub invariant-loop-auto : goal.invariant-loop-auto
+invariant-loop-auto l = (l.count ≤ l.auto-index) × (l.count + number (drop l.auto-index l.autos) ≡ number l.autos)

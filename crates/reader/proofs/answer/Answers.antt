@@ -5,9 +5,9 @@ use Rattle.printed.proofs.Within.{sheet-within}
 use Rattle.reader.proofs.answer.Goals as goal
 
 pub slice_bounds-text-end : goal.slice_bounds-text-end
-slice_bounds-text-end c = sheet-within c.print_sheet-made.result c.in-Printed.length c.print_sheet-made.new.into c.in-Printed.is _ _ c.print_sheet-made.ensures
+slice_bounds-text-end c = sheet-within c.print_sheet.result c.in-Some.length c.print_sheet.new.into c.in-Some.is _ _ c.print_sheet.ensures
 
 pub slice_bounds-write_out-end : goal.slice_bounds-write_out-end
 slice_bounds-write_out-end c =
     sym
-    (length-take-le _ _ (sheet-within c.print_sheet-made.result c.in-Printed.length c.print_sheet-made.new.into c.in-Printed.is _ _ c.print_sheet-made.ensures))
+    (length-take-le _ _ (sheet-within c.print_sheet.result c.in-Some.length c.print_sheet.new.into c.in-Some.is _ _ c.print_sheet.ensures))

@@ -5,9 +5,9 @@ use Rattle.printed.proofs.Within.{message-within}
 use Rattle.reader.proofs.say.Goals as goal
 
 pub slice_bounds-text-end : goal.slice_bounds-text-end
-slice_bounds-text-end c = message-within c.print_message-made.result c.in-Printed.length c.print_message-made.new.into c.in-Printed.is _ _ _ c.print_message-made.ensures
+slice_bounds-text-end c = message-within c.print_message.result c.in-Some.length c.print_message.new.into c.in-Some.is _ _ _ c.print_message.ensures
 
 pub slice_bounds-write_error-end : goal.slice_bounds-write_error-end
 slice_bounds-write_error-end c =
     sym
-    (length-take-le _ _ (message-within c.print_message-made.result c.in-Printed.length c.print_message-made.new.into c.in-Printed.is _ _ _ c.print_message-made.ensures))
+    (length-take-le _ _ (message-within c.print_message.result c.in-Some.length c.print_message.new.into c.in-Some.is _ _ _ c.print_message.ensures))

@@ -1,27 +1,30 @@
 -- `write_and_read`: what writing left is read back (`Carries`); the rows have the lengths of their types. Assumes nothing.
-use mathlib.Core.Path.{refl, sym}
+use Rattle.std.proofs.Common.{refl, sym}
 use lib.Seq.{length-take-le}
+use Rattle.rows.specs.Shapes.{width}
 use Rattle.sheet.specs.Answer.{sheet_of}
 use Rattle.sheet.proofs.Told.{SheetWritten, bytes-of-written}
 use Rattle.round_trip.proofs.Carries.{carry-refused, carry-read}
-use Rattle.rows.specs.Shapes.{width}
 use Rattle.round_trip.proofs.write_and_read.Goals as goal
+
+pub returns-in_err-length : goal.returns-in_err-length
+returns-in_err-length c =
+    carry-refused (sheet_of c.args.space c.args.tracks.now c.args.items.now) c.args.bytes.now c.args.into_tracks.now c.args.into_items.now c.write.result _ c.write.ensures _ c.in_err-length.was _
+    c.from_residual.ensures.1
 
 pub slice_bounds-read-end : goal.slice_bounds-read-end
 slice_bounds-read-end c =
-    let bytes-at : SheetWritten (sheet_of c.args.space c.args.tracks.now c.args.items.now) c.args.bytes.now c.write-written.new.bytes c.in-Written.length = bytes-of-written (sheet_of c.args.space c.args.tracks.now c.args.items.now) c.args.bytes.now c.write-written.result _ c.write-written.ensures c.in-Written.length c.in-Written.is in
-    bytes-at.within
+    let written : SheetWritten (sheet_of c.args.space c.args.tracks.now c.args.items.now) c.args.bytes.now c.write.new.bytes c.in_ok-length.length = bytes-of-written (sheet_of c.args.space c.args.tracks.now c.args.items.now) c.args.bytes.now c.write.result _ c.write.ensures c.in_ok-length.length c.in_ok-length.was in
+    written.within
 
-pub slice_bounds-read-end-in-Written : goal.slice_bounds-read-end-in-Written
-slice_bounds-read-end-in-Written c =
-    let bytes-at : SheetWritten (sheet_of c.args.space c.args.tracks.now c.args.items.now) c.args.bytes.now c.write-written.new.bytes c.in-Written.length = bytes-of-written (sheet_of c.args.space c.args.tracks.now c.args.items.now) c.args.bytes.now c.write-written.result _ c.write-written.ensures c.in-Written.length c.in-Written.is in
-    sym (length-take-le _ _ bytes-at.within)
+pub slice_bounds-read-end-2 : goal.slice_bounds-read-end-2
+slice_bounds-read-end-2 c =
+    let written : SheetWritten (sheet_of c.args.space c.args.tracks.now c.args.items.now) c.args.bytes.now c.write.new.bytes c.in_ok-length.length = bytes-of-written (sheet_of c.args.space c.args.tracks.now c.args.items.now) c.args.bytes.now c.write.result _ c.write.ensures c.in_ok-length.length c.in_ok-length.was in
+    sym (length-take-le _ _ written.within)
 
-pub returns-in-Refused : goal.returns-in-Refused
-returns-in-Refused c = carry-refused (sheet_of c.args.space c.args.tracks.now c.args.items.now) c.args.bytes.now c.args.into_tracks.now c.args.into_items.now c.write-written.result _ c.write-written.ensures c.in-Refused.refusal c.in-Refused.is
-
-pub returns-in-Written : goal.returns-in-Written
+pub returns : goal.returns
 unfolding width
-returns-in-Written c =
-    let bytes-at : SheetWritten (sheet_of c.args.space c.args.tracks.now c.args.items.now) c.args.bytes.now c.write-written.new.bytes c.in-Written.length = bytes-of-written (sheet_of c.args.space c.args.tracks.now c.args.items.now) c.args.bytes.now c.write-written.result _ c.write-written.ensures c.in-Written.length c.in-Written.is in
-    carry-read (sheet_of c.args.space c.args.tracks.now c.args.items.now) c.args.bytes.now c.args.into_tracks.now c.args.into_items.now c.write-written.result _ c.write-written.ensures (record { of_space = refl; of_tracks = c.tracks_long.ensures; of_items = c.items_long.ensures }) _ bytes-at _ c.read.ensures
+returns c =
+    let written : SheetWritten (sheet_of c.args.space c.args.tracks.now c.args.items.now) c.args.bytes.now c.write.new.bytes c.in_ok-length.length = bytes-of-written (sheet_of c.args.space c.args.tracks.now c.args.items.now) c.args.bytes.now c.write.result _ c.write.ensures c.in_ok-length.length c.in_ok-length.was in
+    carry-read (sheet_of c.args.space c.args.tracks.now c.args.items.now) c.args.bytes.now c.args.into_tracks.now c.args.into_items.now c.write.result _ c.write.ensures
+    (record { of_space = refl; of_tracks = c.told-tracks; of_items = c.told-items }) _ written _ c.read.ensures

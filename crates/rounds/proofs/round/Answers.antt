@@ -10,4 +10,4 @@ returns-then-q-eq0 c =
 pub returns : goal.returns
 returns c =
     λ n.
-    round-each _ _ c.args.found c.requires.0 _ _ n c.if-q-eq0.false c.smaller-k.ensures c.take_each.ensures
+    round-each _ _ c.args.found c.requires.0 _ _ n c.if-q-eq0.false c.min-k.ensures c.take_each.ensures

@@ -11,7 +11,6 @@ use Rattle.lines.specs.Rows.{lines_of}
 use Rattle.lines.specs.Chains.{fr_batch, batch_at}
 use Rattle.letters.proofs.Shared.{zeros-as}
 use Rattle.chains.proofs.Batches.{gathered-batches, gathered-last}
-use Rattle.spans.proofs.Raised.{chain-fits-as}
 use Rattle.sizing.proofs.WholeSizing.{bases-fit, maximised-fit, sized}
 use Rattle.sizing.proofs.size.Goals as goal
 
@@ -29,7 +28,7 @@ finish-free-requires c =
     let ts = map track_of c.args.tracks.now in
     let long = length-map c.args.tracks.now track_of in
     let same : length c.content.new.lines ≡ length c.args.lines.now = search rules in
-    let is_last : c.fr_batch-last.result ≡ fr_batch (length ts) = c.fr_batch-last.ensures ∙ ap fr_batch (sym long) in
+    let is_last : c.fr_batch.result ≡ fr_batch (length ts) = c.fr_batch.ensures ∙ ap fr_batch (sym long) in
     let same2 : length c.maximise-rounds.new.lines ≡ length c.content.new.lines = search rules in
     let batches = gathered-batches ts c.args.items.now _ _ c.requires.0.sound.items (search rules) c.content.ensures.2 in (
       record {
@@ -40,7 +39,7 @@ finish-free-requires c =
         held-long = c.requires.1.held-long ∙ sym c.requires.1.of-content.lines_long ∙ sym same ∙ sym same2;
         sizes-long = c.requires.2 ∙ sym c.requires.1.of-content.lines_long ∙ sym same ∙ sym same2;
       },
-      chain-fits-as c.args.items.now _ _ (same2 ∙ same ∙ c.requires.1.of-content.lines_long ∙ sym long) (batches.fits c.fr_batch-last.result (omega arith) (omega arith)),
+      rw (c.new-batch.ensures, same2 ∙ same ∙ c.requires.1.of-content.lines_long ∙ sym long) (batches.fits c.fr_batch.result (omega arith) (omega arith)).fit,
       c.requires.0.expansion-fits,
     )
 
@@ -49,7 +48,7 @@ returns c =
     let ts = map track_of c.args.tracks.now in
     let long = length-map c.args.tracks.now track_of in
     let same : length c.content.new.lines ≡ length c.args.lines.now = search rules in
-    let is_last : c.fr_batch-last.result ≡ fr_batch (length ts) = c.fr_batch-last.ensures ∙ ap fr_batch (sym long) in
-    let batch = ap (batch_at c.args.items.now c.content.new.heads c.content.new.nexts) is_last ∙ gathered-last ts c.args.items.now _ _ c.requires.0.sound.items (search rules) c.content.ensures.2 in
-    sized c.args.constraint c.args.expansion c.args.asked ts (map item_of c.args.items.now) (lines_of c.content.new.lines) (lines_of c.maximise-rounds.new.lines) (batch_at c.args.items.now c.content.new.heads c.content.new.nexts c.fr_batch-last.result) c.finish-free.new.sizes c.finish-free.result c.maximise-rounds.result
+    let is_last : c.fr_batch.result ≡ fr_batch (length ts) = c.fr_batch.ensures ∙ ap fr_batch (sym long) in
+    let batch = c.new-batch.ensures ∙ ap (batch_at c.args.items.now c.content.new.heads c.content.new.nexts) is_last ∙ gathered-last ts c.args.items.now _ _ c.requires.0.sound.items (search rules) c.content.ensures.2 in
+    sized c.args.constraint c.args.expansion c.args.asked ts (map item_of c.args.items.now) (lines_of c.content.new.lines) (lines_of c.maximise-rounds.new.lines) c.new-batch.result c.finish-free.new.sizes c.finish-free.result c.maximise-rounds.result
     c.content.ensures.0 c.maximise-rounds.ensures.0 batch c.finish-free.ensures.0 c.finish-free.ensures.1

@@ -1,20 +1,16 @@
--- `item_over` looks at each contribution in its turn. Assumes nothing.
-use mathlib.Core.Bool.{Bool}
+-- `item_over` looks at each contribution. Assumes nothing.
+use borrow.Author.Rules.{rules}
+use borrow.Author.Tests.{tests}
+use Rattle.std.proofs.lemmas.Iterator.{YieldsList-from_slice}
+use Rattle.std.proofs.lemmas.Iterator.Search.{any_from_yields_List}
+use Rattle.laws.specs.Lists.{some}
 use Rattle.kinds.specs.Kinds.{amount_at}
 use Rattle.kinds.specs.declared.item.ContributionKind.{ContributionKind}
-use Rattle.kinds.specs.declared.item.Item.{Item}
-use Rattle.checks.specs.Rule.{amount_over, most_contribution}
-use Rattle.spanned.proofs.Three.{some-by-first, some-by-second, some-by-third}
+use Rattle.checks.specs.Rule.{amount_over, most_contribution, contribution_kinds}
 use Rattle.checks.proofs.over.item_over.Goals as goal
 
-abbrev over : Item → ContributionKind → Bool
-over item k = amount_over most_contribution (amount_at item k)
-
-pub returns-then-amount_over : goal.returns-then-amount_over
-returns-then-amount_over c = some-by-first (over c.args.item) (cc)
-
-pub returns-then-amount_over-2 : goal.returns-then-amount_over-2
-returns-then-amount_over-2 c = some-by-second (over c.args.item) (cc) (cc)
-
 pub returns : goal.returns
-returns c = some-by-third (over c.args.item) (cc) (cc) (cc)
+unfolding some
+returns c =
+    any_from_yields_List (λ (k : ContributionKind). amount_over most_contribution (amount_at c.args.item k)) _ _ c.any.result c.any.ensures.ran
+    (YieldsList-from_slice contribution_kinds cc) (λ x b q k. search (rules, tests))

@@ -1,13 +1,16 @@
 -- `lookup` meets its contract: the entry that narrowing finds is the track of the full scan, or the last edge. Assumes nothing.
-use mathlib.Core.Path.{sym}
+use Rattle.std.proofs.Common.{sym}
+use Rattle.std.proofs.lemmas.Result.{err_from_is_err_and}
 use Rattle.edges.proofs.Scan.{lookup-track, lookup-none, lookup-unsorted}
 use Rattle.edges.proofs.looking.lookup.Goals as goal
 
-pub returns-then-last-edges : goal.returns-then-last-edges
-returns-then-last-edges c = lookup-track c.args.edges.now c.args.dot (sym c.in-Fine.ensures) _ c.narrow-last.ensures c.if-last-edges.true
+pub returns-in_err-check : goal.returns-in_err-check
+returns-in_err-check c =
+    let p = err_from_is_err_and c.from_residual.result c.from_residual.ensures.1 in
+    rw (p.1, p.2) (lookup-unsorted c.args.edges.now c.args.dot _ _ c.in_err-check.ensures)
 
-pub returns-in-Found : goal.returns-in-Found
-returns-in-Found c = lookup-unsorted c.args.edges.now c.args.dot c.in-Found.entry c.in-Found.ensures
+pub returns-then-last-edges : goal.returns-then-last-edges
+returns-then-last-edges c = lookup-track c.args.edges.now c.args.dot (sym c.in_ok-check.ensures) _ c.narrow-last.ensures c.if-last-edges.true
 
 pub returns-else-last-edges : goal.returns-else-last-edges
-returns-else-last-edges c = lookup-none c.args.edges.now c.args.dot (sym c.in-Fine.ensures) _ c.narrow-last.ensures c.if-last-edges.false
+returns-else-last-edges c = lookup-none c.args.edges.now c.args.dot (sym c.in_ok-check.ensures) _ c.narrow-last.ensures c.if-last-edges.false

@@ -1,8 +1,7 @@
--- The loop of `fr_now`: what it keeps true, and what falls.
+-- The loop of `fr_now`: what it keeps true.
 use mathlib.Core.Path.{◌≡◌}
 use mathlib.Core.List.{map}
-use Prim.Native.Nat.{◌+◌, ◌-◌, ◌≤◌}
-use lib.ListN.{length}
+use Prim.Native.Nat.{◌+◌}
 use Rattle.laws.specs.Sums.{sum}
 use Rattle.lines.specs.Fr.{held_size, open_factor}
 use Rattle.lines.specs.Rows.{lines_of}
@@ -11,7 +10,4 @@ use Rattle.flexible.proofs.Walks.{flexes_from}
 use Rattle.flexible.proofs.search.fr_now.Given as goal
 
 abbrev pub invariant-loop-i : goal.invariant-loop-i
-invariant-loop-i l = (l.i ≤ length l.lines) × (l.sizes + sum (map held_size (flexes_from l.lines l.held l.i)) ≡ sum (map held_size (flexes (lines_of l.lines) l.held))) × (l.factors + sum (map open_factor (flexes_from l.lines l.held l.i)) ≡ sum (map open_factor (flexes (lines_of l.lines) l.held)))
-
-abbrev pub decreases-loop-i : goal.decreases-loop-i
-decreases-loop-i l = length l.lines - l.i
+invariant-loop-i l = (l.sizes + sum (map held_size (flexes_from l.lines l.held l.i)) ≡ sum (map held_size (flexes (lines_of l.lines) l.held))) × (l.factors + sum (map open_factor (flexes_from l.lines l.held l.i)) ≡ sum (map open_factor (flexes (lines_of l.lines) l.held)))

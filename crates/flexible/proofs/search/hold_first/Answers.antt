@@ -11,12 +11,9 @@ use Rattle.flexible.proofs.Walks.{first_step, first-end}
 use Rattle.flexible.proofs.search.hold_first.Goals as goal
 
 pub loop-i-preserved : goal.loop-i-preserved
-loop-i-preserved c = (
-  search rules,
-  search rules,
-  store_step _ _ (λ _. held_first (lines_of (drop c.loop-i.i c.args.lines.now))) (λ _. held_first (lines_of (drop (c.loop-i.i + 1) c.args.lines.now))) _ false _ c.loop-i-test.true
-      (first_step c.args.lines.now c.loop-i.i _ (search rules) (ap not c.row_is_fr-fr.ensures)) c.loop-i.invariant.2,
-)
+loop-i-preserved c =
+    store_step c.loop-i.held c.loop-i.i (λ _. held_first (lines_of (drop c.loop-i.i c.args.lines.now))) (λ _. held_first (lines_of (drop (c.loop-i.i + 1) c.args.lines.now))) _ false _ (search rules)
+    (first_step c.args.lines.now c.loop-i.i _ (search rules) (ap not c.row_is_fr.ensures)) c.loop-i.invariant
 
 pub returns : goal.returns
-returns c = store-end _ _ (λ _. held_first (lines_of (drop c.loop-i.i c.args.lines.now))) _ c.loop-i-test.false (first-end c.args.lines.now c.loop-i.i (search rules)) c.loop-i.invariant.2
+returns c = store-end c.loop-i.held c.loop-i.i (λ _. held_first (lines_of (drop c.loop-i.i c.args.lines.now))) _ (search rules) (first-end c.args.lines.now c.loop-i.i (search rules)) c.loop-i.invariant

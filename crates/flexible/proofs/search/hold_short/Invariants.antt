@@ -1,9 +1,8 @@
--- The loop of `hold_short`: what it keeps true, and what falls.
+-- The loop of `hold_short`: what it keeps true.
 use mathlib.Core.Path.{◌≡◌}
 use mathlib.Core.Bool.{◌||◌}
 use mathlib.Core.List.{◌++◌}
-use Prim.Native.Nat.{◌-◌, ◌≤◌}
-use lib.ListN.{length, take, drop}
+use lib.ListN.{take, drop}
 use Rattle.laws.specs.Lists.{some}
 use Rattle.lines.specs.Fr.{short}
 use Rattle.lines.specs.Rows.{lines_of}
@@ -12,7 +11,4 @@ use Rattle.flexible.proofs.Walks.{flexes_from}
 use Rattle.flexible.proofs.search.hold_short.Given as goal
 
 abbrev pub invariant-loop-i : goal.invariant-loop-i
-invariant-loop-i l = (l.i ≤ length l.initial.held) × (length l.held ≡ length l.initial.held) × (take l.i l.held ++ held_next l.fr (lines_of (drop l.i l.lines)) (drop l.i l.held) ≡ held_next l.fr (lines_of l.lines) l.initial.held) × ((l.any || some (short l.fr) (flexes_from l.lines l.held l.i)) ≡ some (short l.fr) (flexes (lines_of l.lines) l.initial.held))
-
-abbrev pub decreases-loop-i : goal.decreases-loop-i
-decreases-loop-i l = length l.initial.held - l.i
+invariant-loop-i l = (take l.i l.held ++ held_next l.fr (lines_of (drop l.i l.lines)) (drop l.i l.held) ≡ held_next l.fr (lines_of l.lines) l.initial.held) × ((l.any || some (short l.fr) (flexes_from l.lines l.held l.i)) ≡ some (short l.fr) (flexes (lines_of l.lines) l.initial.held))

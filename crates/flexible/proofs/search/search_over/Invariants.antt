@@ -1,5 +1,6 @@
--- The loop of `search_over`: what it keeps true, and what falls.
+-- The loop of `search_over`: what it keeps true.
 use mathlib.Core.Path.{◌≡◌}
+use Prim.Native.Nat.{◌-◌}
 use lib.ListN.{length}
 use Rattle.lines.specs.Fr as fr-rule
 use Rattle.lines.specs.Rule.{search_over}
@@ -7,8 +8,5 @@ use Rattle.lines.specs.Rows.{lines_of}
 use Rattle.flexible.specs.Flexes.{flexes}
 use Rattle.flexible.proofs.search.search_over.Given as goal
 
-abbrev pub invariant-loop-left : goal.invariant-loop-left
-invariant-loop-left l = (length l.held ≡ length l.lines) × (fr-rule.search l.left l.space (flexes (lines_of l.lines) l.held) ≡ search_over l.space (lines_of l.lines))
-
-abbrev pub decreases-loop-left : goal.decreases-loop-left
-decreases-loop-left l = l.left
+abbrev pub invariant-loop : goal.invariant-loop
+invariant-loop l = (length l.held ≡ length l.lines) × (fr-rule.search (l.end - l.counter) l.space (flexes (lines_of l.lines) l.held) ≡ search_over l.space (lines_of l.lines))

@@ -1,16 +1,24 @@
--- `track_fault` is the first of what it finds in each number, taken from the last one back; that they are f32 is what its row's type says.
--- Assumes nothing.
-use native.Mathlib.Omega.{arith}
-use Rattle.float_domain.proofs.F32.{f32-of-elements}
-use Rattle.float_domain.proofs.Outside.{outside-then}
+-- `track_fault`: the first of its five numbers that is outside, or none. Assumes nothing.
+use mathlib.Core.Path.{refl}
+use Rattle.float_domain.proofs.Outside.{track-in-order, is-refused}
 use Rattle.float_domain.proofs.numbers.track_fault.Goals as goal
 
-pub returns-clause-result_value : goal.returns-clause-result_value
-returns-clause-result_value c =
-    let limit-planned = outside-then _ _ _ _ c.first-limit_planned.ensures c.number_fault.ensures c.number_fault-incurred.ensures (omega arith) in
-    let base-planned = outside-then _ _ _ _ c.first-base_planned.ensures c.number_fault-2.ensures limit-planned (omega arith) in
-    let limit = outside-then _ _ _ _ c.first-limit.ensures c.number_fault-3.ensures base-planned (omega arith) in
-    outside-then _ _ _ _ c.first.ensures c.number_fault-4.ensures limit (omega arith)
+pub returns-in_err-number_fault-clause-fault : goal.returns-in_err-number_fault-clause-fault
+returns-in_err-number_fault-clause-fault c =
+    rw (is-refused _ _ c.from_residual.ensures.1, track-in-order, ← c.in_err-number_fault.ensures) refl
 
-pub returns-clause-all : goal.returns-clause-all
-returns-clause-all c = f32-of-elements c.args.row c.well_formed.1.0.0 c.well_formed.1.0.1.1
+pub returns-in_err-number_fault-2-clause-fault : goal.returns-in_err-number_fault-2-clause-fault
+returns-in_err-number_fault-2-clause-fault c =
+    rw (is-refused _ _ c.from_residual-in_err-number_fault-2.ensures.1, track-in-order, ← c.in_ok-number_fault.ensures, ← c.in_err-number_fault-2.ensures) refl
+
+pub returns-in_err-number_fault-3-clause-fault : goal.returns-in_err-number_fault-3-clause-fault
+returns-in_err-number_fault-3-clause-fault c =
+    rw (is-refused _ _ c.from_residual-in_err-number_fault-3.ensures.1, track-in-order, ← c.in_ok-number_fault.ensures, ← c.in_ok-number_fault-2.ensures, ← c.in_err-number_fault-3.ensures) refl
+
+pub returns-in_err-number_fault-4-clause-fault : goal.returns-in_err-number_fault-4-clause-fault
+returns-in_err-number_fault-4-clause-fault c =
+    rw (is-refused _ _ c.from_residual-in_err-number_fault-4.ensures.1, track-in-order, ← c.in_ok-number_fault.ensures, ← c.in_ok-number_fault-2.ensures, ← c.in_ok-number_fault-3.ensures, ← c.in_err-number_fault-4.ensures) refl
+
+pub returns-clause-fault : goal.returns-clause-fault
+returns-clause-fault c =
+    rw (track-in-order, ← c.in_ok-number_fault.ensures, ← c.in_ok-number_fault-2.ensures, ← c.in_ok-number_fault-3.ensures, ← c.in_ok-number_fault-4.ensures) c.number_fault-5.ensures

@@ -1,29 +1,32 @@
--- `stretch_fault`: the lengths, then the numbers from the tracks to the minimum size; where it finds nothing, the inputs are met. Assumes nothing.
-use mathlib.Core.Path.{sym, ◌∙◌}
-use native.Mathlib.Omega.{arith}
-use Rattle.float_domain.specs.Domain.{tracks_numbers}
-use Rattle.float_domain.proofs.Outside.{outside-then}
+-- `stretch_fault`: the lengths, then the numbers in order; where it finds nothing, the inputs are met. Assumes nothing.
+use mathlib.Core.Path.{refl}
+use Rattle.float_domain.proofs.Outside.{is-refused}
 use Rattle.float_domain.proofs.F32.{f32-of-size, f32-of-space}
-use Rattle.floats.proofs.Fine.{first-of-passed, fine-of-first}
+use Rattle.floats.proofs.Order.{stretch-in-order}
 use Rattle.floats.proofs.Rust.{stretch-inputs}
-use Rattle.floats.specs.Rule.{size_number, space_number}
 use Rattle.floats.proofs.stretching.stretch_fault.Goals as goal
 
-pub returns-clause-result_value : goal.returns-clause-result_value
-returns-clause-result_value c =
-    let from-space = outside-then 1 2 (space_number c.args.space) (tracks_numbers c.args.tracks.now) c.first-from_space.ensures c.space_fault.ensures c.tracks_fault-from_tracks.ensures.result_value (omega arith) in
-    let is =
-    outside-then 0 1 (size_number c.args.minimum) _ c.first.ensures c.size_fault.ensures from-space (omega arith)
-    ∙ first-of-passed _ 12 0 _ (sym c.two_fit.ensures ∙ c.if-not-two_fit.false) in
-    is
+pub returns-in_err-size_fault-clause-fault : goal.returns-in_err-size_fault-clause-fault
+returns-in_err-size_fault-clause-fault c =
+    let fit = c.in_ok-lengths_fault.ensures in
+    rw (is-refused _ _ c.from_residual-in_err-size_fault.ensures.1, stretch-in-order _ _ _ _ fit, ← c.in_err-size_fault.ensures) refl
 
-pub returns-clause-stretch_inputs : goal.returns-clause-stretch_inputs
-returns-clause-stretch_inputs c =
-    let from-space = outside-then 1 2 (space_number c.args.space) (tracks_numbers c.args.tracks.now) c.first-from_space.ensures c.space_fault.ensures c.tracks_fault-from_tracks.ensures.result_value (omega arith) in
-    let is =
-    outside-then 0 1 (size_number c.args.minimum) _ c.first.ensures c.size_fault.ensures from-space (omega arith)
-    ∙ first-of-passed _ 12 0 _ (sym c.two_fit.ensures ∙ c.if-not-two_fit.false) in
-    λ h.
-    stretch-inputs c.args.tracks.now c.args.autos.now c.args.minimum c.args.space
-    (c.tracks_fault-from_tracks.ensures.all (fine-of-first c.space_fault.result c.tracks_fault-from_tracks.result c.first-from_space.ensures (fine-of-first c.size_fault.result c.first-from_space.result c.first.ensures (is ∙ h)).1).1)
-    (f32-of-size c.args.minimum _ c.well_formed.1.1.0) (f32-of-space c.args.space _ c.well_formed.1.1.1.0) h
+pub returns-in_err-space_fault-clause-fault : goal.returns-in_err-space_fault-clause-fault
+returns-in_err-space_fault-clause-fault c =
+    let fit = c.in_ok-lengths_fault.ensures in
+    rw (is-refused _ _ c.from_residual-in_err-space_fault.ensures.1, stretch-in-order _ _ _ _ fit, ← c.in_ok-size_fault.ensures, ← c.in_err-space_fault.ensures) refl
+
+pub returns-in_err-tracks_fault-clause-fault : goal.returns-in_err-tracks_fault-clause-fault
+returns-in_err-tracks_fault-clause-fault c =
+    let fit = c.in_ok-lengths_fault.ensures in
+    rw (is-refused _ _ c.from_residual-in_err-tracks_fault.ensures.1, stretch-in-order _ _ _ _ fit, ← c.in_ok-size_fault.ensures, ← c.in_ok-space_fault.ensures, ← c.in_err-tracks_fault.ensures.fault) refl
+
+pub returns-clause-fault : goal.returns-clause-fault
+returns-clause-fault c =
+    let fit = c.in_ok-lengths_fault.ensures in
+    rw (stretch-in-order _ _ _ _ fit, ← c.in_ok-size_fault.ensures, ← c.in_ok-space_fault.ensures, ← c.in_ok-tracks_fault.ensures.fault) refl
+
+pub returns-clause-inputs : goal.returns-clause-inputs
+returns-clause-inputs c =
+    let fit = c.in_ok-lengths_fault.ensures in
+    stretch-inputs c.args.tracks.now c.args.autos.now c.args.minimum c.args.space c.in_ok-tracks_fault.ensures.all (f32-of-size c.args.minimum _ c.well_formed.1.1.0) (f32-of-space c.args.space _ c.well_formed.1.1.1.0) (rw (stretch-in-order _ _ _ _ fit, ← c.in_ok-size_fault.ensures, ← c.in_ok-space_fault.ensures, ← c.in_ok-tracks_fault.ensures.fault) refl)

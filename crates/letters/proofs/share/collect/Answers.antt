@@ -3,38 +3,36 @@ use borrow.Author.Rules.{rules}
 use mathlib.Core.Path.{ap, ◌∙◌}
 use mathlib.Core.List.{[]}
 use Prim.Native.Nat.{ℕ, ◌+◌, ◌-◌}
-use lib.ListN.{get_or, length-set}
+use lib.ListN.{get_or}
 use Rattle.laws.specs.Walk.{store_step, store-end}
 use Rattle.rounds.specs.Rests.{cap_of}
 use Rattle.lines.specs.declared.line.Line.{Line}
 use Rattle.lines.specs.Rows.{line_of}
 use Rattle.letters.specs.Shares.{share_track}
-use Rattle.letters.proofs.Steps.{same_here, same_next}
+use Rattle.lines.proofs.Walks.{same_here, same_next}
 use Rattle.letters.proofs.ShareSteps.{gained_from, gained-step, gained-nil, lost-at}
 use Rattle.letters.proofs.share.collect.Goals as goal
 
-pub overflow_add-gains : goal.overflow_add-gains
-overflow_add-gains c =
+pub overflow_add-gain : goal.overflow_add-gain
+overflow_add-gain c =
     let now = get_or c.loop-i.gains c.loop-i.i 0 in
     let fits = c.requires.1 c.loop-i.i in
     let at = lost-at c.args.share c.args.dots c.args.lines.now c.args.gains.now c.args.rests.now c.loop-i.i (search rules) (search rules) (search rules) in
-    let same = same_here c.loop-i.gains c.args.gains.now c.loop-i.i c.loop-i.invariant.2 0 in
-    let one = c.less.ensures ∙ ap (λ (k : ℕ). k - get_or c.args.rests.now c.loop-i.i 0) (c.cap-cap.ensures ∙ ap (λ (l : Line). cap_of c.args.dots (share_track c.args.share l now)) c.of_row.ensures) in
+    let same = same_here c.loop-i.gains c.args.gains.now c.loop-i.i c.loop-i.invariant.0 0 in
+    let one = c.saturating_sub.ensures ∙ ap (λ (k : ℕ). k - get_or c.args.rests.now c.loop-i.i 0) (c.cap-cap.ensures ∙ ap (λ (l : Line). cap_of c.args.dots (share_track c.args.share l now)) c.of_row.ensures) in
     let more = one ∙ ap (λ (g : ℕ). cap_of c.args.dots (share_track c.args.share (line_of (get_or c.args.lines.now c.loop-i.i [])) g) - get_or c.args.rests.now c.loop-i.i 0) same in
     search rules
 
 pub loop-i-preserved : goal.loop-i-preserved
 loop-i-preserved c =
     let now = get_or c.loop-i.gains c.loop-i.i 0 in
-    let one = c.less.ensures ∙ ap (λ (k : ℕ). k - get_or c.args.rests.now c.loop-i.i 0) (c.cap-cap.ensures ∙ ap (λ (l : Line). cap_of c.args.dots (share_track c.args.share l now)) c.of_row.ensures) in (
-      search rules,
-      simp length-set c.loop-i.invariant.1,
-      same_next c.loop-i.gains c.args.gains.now c.loop-i.i c.loop-i.invariant.2 _,
+    let one = c.saturating_sub.ensures ∙ ap (λ (k : ℕ). k - get_or c.args.rests.now c.loop-i.i 0) (c.cap-cap.ensures ∙ ap (λ (l : Line). cap_of c.args.dots (share_track c.args.share l now)) c.of_row.ensures) in (
+      same_next c.loop-i.gains c.args.gains.now c.loop-i.i c.loop-i.invariant.0 _,
       store_step c.loop-i.gains c.loop-i.i (gained_from c.args.share c.args.dots c.args.lines.now c.args.rests.now c.loop-i.i) (gained_from c.args.share c.args.dots c.args.lines.now c.args.rests.now (c.loop-i.i + 1)) _ 0 _ (search rules)
-          (gained-step c.args.share c.args.dots c.args.lines.now c.args.rests.now c.loop-i.i _ _ _ (search rules) (search rules) (ap (λ (k : ℕ). now + k) one)) c.loop-i.invariant.3,
+          (gained-step c.args.share c.args.dots c.args.lines.now c.args.rests.now c.loop-i.i _ _ _ (search rules) (search rules) (ap (λ (k : ℕ). now + k) one)) c.loop-i.invariant.1,
     )
 
 pub returns : goal.returns
 returns c =
     store-end c.loop-i.gains c.loop-i.i (gained_from c.args.share c.args.dots c.args.lines.now c.args.rests.now c.loop-i.i) _ (search rules)
-    (gained-nil c.args.share c.args.dots c.args.lines.now c.args.rests.now c.loop-i.i) c.loop-i.invariant.3
+    (gained-nil c.args.share c.args.dots c.args.lines.now c.args.rests.now c.loop-i.i) c.loop-i.invariant.1

@@ -3,7 +3,6 @@ use borrow.Author.Rules.{rules}
 use mathlib.Core.Path.{ap, ◌∙◌}
 use mathlib.Core.List.{List}
 use Prim.Native.Nat.{ℕ, ◌+◌}
-use lib.ListN.{length-set}
 use Rattle.laws.specs.Walk.{store_step, store-end}
 use Rattle.rounds.specs.Rests.{cap_of}
 use Rattle.lines.specs.declared.line.Line.{Line}
@@ -14,14 +13,11 @@ use Rattle.letters.proofs.share.load.Goals as goal
 pub loop-i-preserved : goal.loop-i-preserved
 loop-i-preserved c =
     let from = caps_from (track_in c.args.share) c.args.dots c.args.lines.now in
-    let one = c.cap.ensures ∙ ap (λ (l : Line). cap_of c.args.dots (track_in c.args.share l)) c.of_row.ensures in (
-      search rules,
-      simp length-set c.loop-i.invariant.1,
-      store_step c.loop-i.rests c.loop-i.i (λ (_ : List ℕ). from c.loop-i.i) (λ (_ : List ℕ). from (c.loop-i.i + 1)) _ 0 _ (search rules)
-          (caps-step (track_in c.args.share) c.args.dots c.args.lines.now c.loop-i.i _ (search rules) one) c.loop-i.invariant.2,
-    )
+    let one = c.cap.ensures ∙ ap (λ (l : Line). cap_of c.args.dots (track_in c.args.share l)) c.of_row.ensures in
+    store_step c.loop-i.rests c.loop-i.i (λ (_ : List ℕ). from c.loop-i.i) (λ (_ : List ℕ). from (c.loop-i.i + 1)) _ 0 _ (search rules)
+    (caps-step (track_in c.args.share) c.args.dots c.args.lines.now c.loop-i.i _ (search rules) one) c.loop-i.invariant
 
 pub returns : goal.returns
 returns c =
     store-end c.loop-i.rests c.loop-i.i (λ (_ : List ℕ). caps_from (track_in c.args.share) c.args.dots c.args.lines.now c.loop-i.i) _ (search rules)
-    (caps-end (track_in c.args.share) c.args.dots c.args.lines.now c.loop-i.i (search rules)) c.loop-i.invariant.2
+    (caps-end (track_in c.args.share) c.args.dots c.args.lines.now c.loop-i.i (search rules)) c.loop-i.invariant

@@ -5,7 +5,6 @@ use mathlib.Core.Path.{ap, ap₂, ◌∙◌}
 use mathlib.Core.Bool.{Bool, cond}
 use mathlib.Core.List.{List}
 use Prim.Native.Nat.{ℕ, ◌+◌}
-use lib.ListN.{length-set}
 use Rattle.laws.specs.Walk.{store_step, store-end}
 use Rattle.rounds.specs.Rule.{Room}
 use Rattle.rounds.specs.Rests.{cap_in, cap_of}
@@ -23,17 +22,14 @@ loop-i-preserved c =
     ∙ ap₂ (λ (affected : Bool) (room : Room). cond affected (cap_in c.args.dots room) 0) c.affected.ensures c.room.ensures
     ∙ ap (λ (l : Line). cap_of c.args.dots (first_track (letter_of c.args.letter) l)) c.of_row-line.ensures in
     let turn = caps-step (first_track (letter_of c.args.letter)) c.args.dots c.args.lines.now c.loop-i.i _ (search rules) one in (
-      search rules,
-      simp length-set c.loop-i.invariant.1,
-      simp length-set c.loop-i.invariant.2,
-      store_step c.loop-i.gains c.loop-i.i (λ (_ : List ℕ). from c.loop-i.i) (λ (_ : List ℕ). from (c.loop-i.i + 1)) _ 0 _ (search rules) turn c.loop-i.invariant.3,
-      store_step c.loop-i.rests c.loop-i.i (λ (_ : List ℕ). from c.loop-i.i) (λ (_ : List ℕ). from (c.loop-i.i + 1)) _ 0 _ (search rules) turn c.loop-i.invariant.4,
+      store_step c.loop-i.gains c.loop-i.i (λ (_ : List ℕ). from c.loop-i.i) (λ (_ : List ℕ). from (c.loop-i.i + 1)) _ 0 _ (search rules) turn c.loop-i.invariant.0,
+      store_step c.loop-i.rests c.loop-i.i (λ (_ : List ℕ). from c.loop-i.i) (λ (_ : List ℕ). from (c.loop-i.i + 1)) _ 0 _ (search rules) turn c.loop-i.invariant.1,
     )
 
 pub returns : goal.returns
 returns c =
     let from = caps_from (first_track (letter_of c.args.letter)) c.args.dots c.args.lines.now in
     let all = caps-end (first_track (letter_of c.args.letter)) c.args.dots c.args.lines.now c.loop-i.i (search rules) in (
-      store-end c.loop-i.gains c.loop-i.i (λ (_ : List ℕ). from c.loop-i.i) _ (search rules) all c.loop-i.invariant.3,
-      store-end c.loop-i.rests c.loop-i.i (λ (_ : List ℕ). from c.loop-i.i) _ (search rules) all c.loop-i.invariant.4,
+      store-end c.loop-i.gains c.loop-i.i (λ (_ : List ℕ). from c.loop-i.i) _ (search rules) all c.loop-i.invariant.0,
+      store-end c.loop-i.rests c.loop-i.i (λ (_ : List ℕ). from c.loop-i.i) _ (search rules) all c.loop-i.invariant.1,
     )

@@ -1,19 +1,12 @@
--- The loop of `load_first`: what it keeps true, and what falls.
+-- The loop of `load_first`: what it keeps true.
 use mathlib.Core.Path.{◌≡◌}
 use mathlib.Core.List.{◌++◌}
-use Prim.Native.Nat.{◌-◌, ◌≤◌}
-use lib.ListN.{length, take}
+use lib.ListN.{take}
 use Rattle.lines.specs.Rule.{first_track}
 use Rattle.letters.specs.Letters.{letter_of}
 use Rattle.letters.proofs.ShareSteps.{caps_from}
 use Rattle.letters.proofs.share.load_first.Given as goal
 
 abbrev pub invariant-loop-i : goal.invariant-loop-i
-invariant-loop-i l = (l.i ≤ length l.lines)
-    × (length l.gains ≡ length l.initial.gains)
-    × (length l.rests ≡ length l.initial.rests)
-    × (take l.i l.gains ++ caps_from (first_track (letter_of l.letter)) l.dots l.lines l.i ≡ caps_from (first_track (letter_of l.letter)) l.dots l.lines 0)
+invariant-loop-i l = (take l.i l.gains ++ caps_from (first_track (letter_of l.letter)) l.dots l.lines l.i ≡ caps_from (first_track (letter_of l.letter)) l.dots l.lines 0)
     × (take l.i l.rests ++ caps_from (first_track (letter_of l.letter)) l.dots l.lines l.i ≡ caps_from (first_track (letter_of l.letter)) l.dots l.lines 0)
-
-abbrev pub decreases-loop-i : goal.decreases-loop-i
-decreases-loop-i l = length l.lines - l.i

@@ -10,9 +10,12 @@ use Rattle.letters.proofs.totals.base_total.Goals as goal
 abbrev base : Line → ℕ
 base l = l.base
 
-pub loop-i-preserved : goal.loop-i-preserved
-loop-i-preserved c = (search rules, search rules, total-step c.args.lines.now c.loop-i.i base c.loop-i.total _ _ (search rules) (ap base c.of_row-line.ensures) c.loop-i.invariant.2)
+pub loop-row-preserved : goal.loop-row-preserved
+loop-row-preserved c = (
+  search rules,
+  total-step c.args.lines.now c.loop-row.row-index base c.loop-row.total _ _ (search rules) (ap base c.of_row.ensures) c.loop-row.invariant.1,
+)
 
 pub returns : goal.returns
 unfolding bases
-returns c = total-end c.args.lines.now c.loop-i.i base c.loop-i.total _ (search rules) c.loop-i.invariant.2
+returns c = total-end c.args.lines.now c.loop-row.row-index base c.loop-row.total _ (search rules) c.loop-row.invariant.1

@@ -1,8 +1,7 @@
--- The loop of `base_total`: what it keeps true, and what falls.
+-- The loop of `base_total`: what it keeps true.
 use mathlib.Core.Path.{◌≡◌}
 use mathlib.Core.List.{map}
-use Prim.Native.Nat.{ℕ, ◌+◌, ◌-◌, ◌*◌, ◌≤◌}
-use lib.ListN.{length}
+use Prim.Native.Nat.{ℕ, ◌+◌, ◌*◌, ◌≤◌}
 use Rattle.laws.specs.Sums.{sum}
 use Rattle.lines.specs.declared.line.Line.{Line}
 use Rattle.lines.specs.Rows.{lines_of}
@@ -13,8 +12,6 @@ use Rattle.letters.proofs.totals.base_total.Given as goal
 abbrev base : Line → ℕ
 base l = l.base
 
-abbrev pub invariant-loop-i : goal.invariant-loop-i
-invariant-loop-i l = (l.i ≤ length l.lines) × (l.total ≤ l.i * most) × (l.total + sum (map (base) (lines_from l.lines l.i)) ≡ sum (map (base) (lines_of l.lines)))
-
-abbrev pub decreases-loop-i : goal.decreases-loop-i
-decreases-loop-i l = length l.lines - l.i
+abbrev pub invariant-loop-row : goal.invariant-loop-row
+invariant-loop-row l = (l.total ≤ l.row-index * most)
+    × (l.total + sum (map (base) (lines_from l.lines l.row-index)) ≡ sum (map (base) (lines_of l.lines)))

@@ -1,17 +1,12 @@
--- The loop of `start`: what it keeps true, and what falls.
+-- The loop of `start`: what it keeps true.
 use mathlib.Core.Path.{◌≡◌}
 use mathlib.Core.List.{◌++◌, map}
-use Prim.Native.Nat.{◌-◌, ◌≤◌}
-use lib.ListN.{length, take, drop}
+use lib.ListN.{take, drop}
 use Rattle.kinds.specs.Kinds.{track_of}
 use Rattle.lines.specs.Rule.{start_line}
 use Rattle.lines.specs.Rows.{lines_of}
 use Rattle.lines.proofs.passes.start.Given as goal
 
 abbrev pub invariant-loop-i : goal.invariant-loop-i
-invariant-loop-i l = (l.i ≤ length l.initial.lines)
-    × (length l.lines ≡ length l.initial.lines)
-    × (take l.i (lines_of l.lines) ++ map start_line (map track_of (drop l.i l.tracks)) ≡ map start_line (map track_of l.tracks))
-
-abbrev pub decreases-loop-i : goal.decreases-loop-i
-decreases-loop-i l = length l.initial.lines - l.i
+invariant-loop-i l =
+    take l.i (lines_of l.lines) ++ map start_line (map track_of (drop l.i l.tracks)) ≡ map start_line (map track_of l.tracks)

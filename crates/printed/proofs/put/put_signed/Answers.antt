@@ -13,5 +13,5 @@ use Rattle.printed.proofs.put.put_signed.Goals as goal
 
 pub returns-then-n-lt0 : goal.returns-then-n-lt0
 returns-then-n-lt0 c =
-    putting-as (omega arith) (ap (λ (k : ℕ). word "-" ++ decimal k) c.magnitude.ensures ∙ (signed-of-below (to_z w32 (of_z w32 c.args.n)) c.if-n-lt0.true ∙ ap signed (to_z-of_z c.ranges.n)))
+    putting-as (omega arith) (ap (λ (k : ℕ). word "-" ++ decimal k) (c.from-magnitude.ensures ∙ c.unsigned_abs.ensures.value) ∙ (signed-of-below (to_z w32 (of_z w32 c.args.n)) c.if-n-lt0.true ∙ ap signed (to_z-of_z c.ranges.n)))
     (putting-then (omega (arith, c.requires)) c.put_word-next.ensures c.put_number.ensures)

@@ -1,8 +1,10 @@
 -- `load_from` reads a sheet that has no fault: the tracks and the items into lent rows, and the space. Assumes nothing.
-use mathlib.Core.Path.{ap, ◌∙◌}
-use native.Mathlib.Omega.{arith}
+use Rattle.std.proofs.Common.{◌≤◌, ap, ◌∙◌, length, arith}
+use lib.Seq.{length-take-le}
 use Rattle.sheet_kinds.specs.Kinds.{space_of}
+use Rattle.sheet.specs.Rule.{track_record, item_record}
 use Rattle.sheet.proofs.Accepted.{AcceptedFrom, accepted-from}
+use Rattle.sheet.proofs.RowLoads.{loaded}
 use Rattle.sheet.proofs.ReadCall.{load-done}
 use Rattle.sheet.proofs.reading.load_from.Goals as goal
 
@@ -26,33 +28,37 @@ two_at-item_count-requires c =
     let sound : AcceptedFrom c.args.bytes.now c.args.at = accepted-from c.args.bytes.now c.args.at c.requires.unfaulted in
     rw c.items_from-items_at.ensures sound.items.count.whole
 
-pub read_tracks-requires : goal.read_tracks-requires
-read_tracks-requires c =
+pub read_rows-requires : goal.read_rows-requires
+read_rows-requires c =
     let sound : AcceptedFrom c.args.bytes.now c.args.at = accepted-from c.args.bytes.now c.args.at c.requires.unfaulted in
-    rw (c.two_at-track_count.ensures.0, c.tracks_from-tracks_at.ensures) (sound.tracks.ends, c.requires.tracks_fit)
+    let few : c.two_at-track_count.result ≤ length c.args.tracks.now = rw (c.two_at-track_count.ensures.0, c.tracks_from-tracks_at.ensures) c.requires.tracks_fit in
+    rw (length-take-le c.two_at-track_count.result c.args.tracks.now few, c.two_at-track_count.ensures.0, c.tracks_from-tracks_at.ensures) sound.tracks.ends
 
 pub overflow_add-items_at : goal.overflow_add-items_at
 overflow_add-items_at c =
     let sound : AcceptedFrom c.args.bytes.now c.args.at = accepted-from c.args.bytes.now c.args.at c.requires.unfaulted in
     let whole = sound.items.count.whole in omega (arith, c.items_from-items_at.ensures)
 
-pub read_items-requires : goal.read_items-requires
-read_items-requires c =
+pub read_rows-requires-2 : goal.read_rows-requires-2
+read_rows-requires-2 c =
     let sound : AcceptedFrom c.args.bytes.now c.args.at = accepted-from c.args.bytes.now c.args.at c.requires.unfaulted in
-    rw (c.two_at-item_count.ensures.0, c.items_from-items_at.ensures) (sound.items.ends, c.requires.items_fit)
+    let few : c.two_at-item_count.result ≤ length c.args.items.now = rw (c.two_at-item_count.ensures.0, c.items_from-items_at.ensures) c.requires.items_fit in
+    rw (length-take-le c.two_at-item_count.result c.args.items.now few, c.two_at-item_count.ensures.0, c.items_from-items_at.ensures) sound.items.ends
 
-pub space_at-requires : goal.space_at-requires
-space_at-requires c =
+pub read-requires : goal.read-requires
+read-requires c =
     let sound : AcceptedFrom c.args.bytes.now c.args.at = accepted-from c.args.bytes.now c.args.at c.requires.unfaulted in
     let whole = sound.tracks.count.whole in omega arith
 
 pub returns : goal.returns
 returns c =
+    let few_tracks : c.two_at-track_count.result ≤ length c.args.tracks.now = rw (c.two_at-track_count.ensures.0, c.tracks_from-tracks_at.ensures) c.requires.tracks_fit in
+    let few_items : c.two_at-item_count.result ≤ length c.args.items.now = rw (c.two_at-item_count.ensures.0, c.items_from-items_at.ensures) c.requires.items_fit in
     load-done c.args.bytes.now c.args.at c.args.tracks.now c.args.items.now c.requires _ _ _ _ _ _ _
     c.tracks_from-tracks_at.ensures
     c.two_at-track_count.ensures.0
     c.items_from-items_at.ensures
     c.two_at-item_count.ensures.0
-    c.read_tracks.ensures
-    c.read_items.ensures
-    (c.of_row-space.ensures ∙ ap space_of c.space_at.ensures)
+    (loaded track_record _ _ _ _ _ few_tracks c.read_rows.ensures)
+    (loaded item_record _ _ _ _ _ few_items c.read_rows-2.ensures)
+    (c.of_row.ensures ∙ ap space_of c.read.ensures)

@@ -1,14 +1,13 @@
 -- `read` meets its promise: a refusal leaves the rows as they were, and else every row is read. Assumes nothing.
-use mathlib.Core.Path.{sym, ap, ◌∙◌}
-use Rattle.records.specs.Answer.{fault_of}
+use Rattle.std.proofs.Common.{sym}
 use Rattle.sheet.proofs.ReadCall.{read-refused, readable, read_done}
 use Rattle.sheet.proofs.reading.read.Goals as goal
 
-pub returns-in-Found : goal.returns-in-Found
-returns-in-Found c = read-refused c.args.bytes.now c.args.tracks.now c.args.items.now c.in-Found.refusal (sym (ap fault_of c.in-Found.is) ∙ c.read_fault-fault.ensures)
+pub returns-in_err-read_fault : goal.returns-in_err-read_fault
+returns-in_err-read_fault c = read-refused c.args.bytes.now c.args.tracks.now c.args.items.now _ _ c.in_err-read_fault.ensures c.from_residual.ensures.1
 
 pub load_from-requires : goal.load_from-requires
-load_from-requires c = readable c.args.bytes.now c.args.tracks.now c.args.items.now (sym c.read_fault-fault.ensures ∙ ap fault_of c.in_default.is)
+load_from-requires c = readable c.args.bytes.now c.args.tracks.now c.args.items.now (sym c.in_ok-read_fault.ensures)
 
 pub returns : goal.returns
-returns c = read_done c.args.bytes.now c.args.tracks.now c.args.items.now (sym c.read_fault-fault.ensures ∙ ap fault_of c.in_default.is) c.load_from.ensures
+returns c = read_done c.args.bytes.now c.args.tracks.now c.args.items.now (sym c.in_ok-read_fault.ensures) c.load_from.ensures

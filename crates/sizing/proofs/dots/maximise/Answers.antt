@@ -24,6 +24,6 @@ returns-in-MinContent c = (
 pub returns-in-MaxContent : goal.returns-in-MaxContent
 unfolding maximise
 returns-in-MaxContent c = (
-  ap (λ (ls : List Line). maximised ls 0) c.pass_over.ensures ∙ ap (λ (k : Constraint). maximise k (lines_of c.args.lines.now)) (sym c.in-MaxContent.is),
+  ap (λ (ls : List Line). maximised ls 0) c.bases_to_limits.ensures ∙ ap (λ (k : Constraint). maximise k (lines_of c.args.lines.now)) (sym c.in-MaxContent.is),
   c.requires.0.none,
 )

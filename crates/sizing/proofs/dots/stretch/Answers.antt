@@ -4,7 +4,7 @@ use mathlib.Core.Bool.{Bool}
 use Rattle.kinds.specs.declared.constraint.Constraint.{Constraint}
 use Rattle.lines.specs.Rule.{stretched}
 use Rattle.lines.specs.Rows.{lines_of}
-use Rattle.sizing.proofs.Filled.{stretch-definite, stretch-not-asked, stretch-min-content, stretch-max-content}
+use Rattle.sizing.proofs.Filled.{stretch-definite, stretch-not-asked, stretch-elsewhere}
 use mathlib.Core.Bool.{not}
 use Rattle.sizing.proofs.dots.stretch.Goals as goal
 
@@ -16,12 +16,5 @@ returns-in-Definite c =
     stretch-definite c.args.lines.now _ c.requires.0.none _ _ _ c.base_total.ensures c.beyond-dots.ensures _ c.fill_bases.ensures.0
     ∙ ap₂ (λ (asked : Bool) (e : Constraint). stretched asked e (lines_of c.args.lines.now)) (sym c.if-not-asked.false) (sym c.in-Definite.is)
 
-pub returns-in-MinContent : goal.returns-in-MinContent
-returns-in-MinContent c =
-    let ls = lines_of c.args.lines.now in
-    stretch-min-content c.args.asked ls ∙ ap (λ (e : Constraint). stretched c.args.asked e ls) (sym c.in-MinContent.is)
-
-pub returns-in-MaxContent : goal.returns-in-MaxContent
-returns-in-MaxContent c =
-    let ls = lines_of c.args.lines.now in
-    stretch-max-content c.args.asked ls ∙ ap (λ (e : Constraint). stretched c.args.asked e ls) (sym c.in-MaxContent.is)
+pub returns-in_default : goal.returns-in_default
+returns-in_default c = stretch-elsewhere c.args.asked c.args.expansion (lines_of c.args.lines.now) c.in_default.not-Definite

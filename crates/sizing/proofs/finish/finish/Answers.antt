@@ -3,16 +3,15 @@ use borrow.Author.Rules.{rules}
 use native.Mathlib.Omega.{arith}
 use lib.ListN.{length, length-map}
 use Rattle.lines.specs.Rows.{line_of, lines_of}
-use Rattle.lines.specs.Chains.{chained}
 use Rattle.sizing.proofs.Finished.{flexed-fits, finished, finished-free-fits}
 use Rattle.sizing.proofs.finish.finish.Goals as goal
 
 pub stretch-requires : goal.stretch-requires
 stretch-requires c =
-    let batch = chained c.args.items.now c.args.nexts.now c.args.first in (
+    let batch = c.args.batch.now in (
       record {
         few = search rules;
-        bases-fit = flexed-fits c.args.expansion (length c.args.lines.now) batch (lines_of c.args.lines.now) _ c.flex.ensures (rw (length-map c.args.lines.now line_of) c.requires.0.few) c.requires.0.fit c.requires.2 c.requires.1.fit;
+        bases-fit = flexed-fits c.args.expansion (length c.args.lines.now) batch (lines_of c.args.lines.now) _ c.flex.ensures (rw (length-map c.args.lines.now line_of) c.requires.0.few) c.requires.0.fit c.requires.2 c.requires.1;
         none = rw c.lines-1.given c.requires.0.none;
         rests-long = omega (arith, c.requires.0.rests-long);
       },
@@ -21,7 +20,7 @@ stretch-requires c =
 
 pub free_of-requires : goal.free_of-requires
 free_of-requires c =
-    let batch = chained c.args.items.now c.args.nexts.now c.args.first in
+    let batch = c.args.batch.now in
     let ends = finished c.args.expansion c.args.asked batch (lines_of c.args.lines.now) _ _ c.flex.ensures c.stretch.ensures in (
       search rules,
       c.requires.2,

@@ -1,26 +1,17 @@
 -- `batched` runs the letters of a batch that has items. Assumes nothing.
-use borrow.Author.Rules.{rules}
-use mathlib.Core.Path.{sym, subst}
-use Prim.Native.Nat.{◌≤◌, ◌<◌}
-use lib.ListN.{length}
+use mathlib.Core.Path.{sym, subst, ◌∙◌}
 use Rattle.lines.specs.Rows.{lines_of}
-use Rattle.lines.specs.Chains.{chained}
-use Rattle.lines.proofs.Chains.{chained-end}
 use Rattle.spans.specs.Work.{Calm}
 use Rattle.spans.proofs.Calm.{batch-calm}
 use Rattle.spans.proofs.Raised.{batch-of-none, batch-of-steps}
 use Rattle.spans.proofs.batch.batched.Goals as goal
 
-pub returns-then-first-items : goal.returns-then-first-items
-returns-then-first-items c =
-    let k : length c.args.nexts.now ≤ c.args.first = search rules in
-    (batch-of-none c.args.batch c.args.constraint (chained c.args.items.now c.args.nexts.now c.args.first) (lines_of c.args.lines.now) (chained-end c.args.items.now c.args.nexts.now c.args.first k), c.requires.0, c.requires.3)
+pub returns-then-is_empty : goal.returns-then-is_empty
+returns-then-is_empty c = (batch-of-none c.args.kind c.args.constraint c.args.batch.now (lines_of c.args.lines.now) (sym c.is_empty.ensures ∙ c.if-is_empty.true), c.requires.0, c.requires.2)
 
 pub returns : goal.returns
-returns c =
-    let k : c.args.first < length c.args.items.now = search rules in
-    let q = c.requires.2 k in (
-      batch-of-steps c.args.batch c.args.constraint (chained c.args.items.now c.args.nexts.now c.args.first) q.0 q.1 (lines_of c.args.lines.now) _ q.2 c.raise_all.ensures.0,
-      c.raise_all.ensures.1,
-      subst Calm (sym c.raise_all.ensures.0) (batch-calm c.args.batch c.args.constraint (chained c.args.items.now c.args.nexts.now c.args.first) (lines_of c.args.lines.now) c.requires.3),
-    )
+returns c = (
+  batch-of-steps c.args.kind c.args.constraint c.args.batch.now (lines_of c.args.lines.now) _ (sym c.is_empty.ensures ∙ c.if-is_empty.false) c.raise_all.ensures.0,
+  c.raise_all.ensures.1,
+  subst Calm (sym c.raise_all.ensures.0) (batch-calm c.args.kind c.args.constraint c.args.batch.now (lines_of c.args.lines.now) c.requires.2),
+)

@@ -21,20 +21,23 @@ bounds-sums-e c =
 pub total_between-total-requires : goal.total_between-total-requires
 total_between-total-requires c = spanned-rises c.args.lines.now c.args.item c.args.letter c.args.sums.now c.requires.0.totals c.requires.1.within
 
+pub invariant_of-extra : goal.invariant_of-extra
+invariant_of-extra c =
+    record {
+      few = between-few c.args.item.start c.args.item.span c.args.lines.now c.requires.1.within c.requires.0.few;
+      fit = between-fits c.args.item.start c.args.item.span c.args.lines.now c.requires.0.fit;
+    }
+
 pub extra-dots-requires : goal.extra-dots-requires
-extra-dots-requires c = (
-  between-few c.args.item.start c.args.item.span c.args.lines.now c.requires.1.within c.requires.0.few,
-  between-fits c.args.item.start c.args.item.span c.args.lines.now c.requires.0.fit,
-  spanned-total c.args.lines.now c.args.item c.args.letter c.args.sums.now c.requires.0.totals c.requires.1.within _ c.total_between-total.ensures,
-)
+extra-dots-requires c = spanned-total c.args.lines.now c.args.item c.args.letter c.args.sums.now c.requires.0.totals c.requires.1.within _ c.total_between-total.ensures
 
 pub returns-then-dots-eq0 : goal.returns-then-dots-eq0
 unfolding in_turn
-returns-then-dots-eq0 c = record { laid = asks_nothing c.args.batch c.args.lines.now c.args.item c.args.letter c.args.constraint c.args.increases.now _ c.extra-dots.ensures (search rules); nothing = λ _. refl }
+returns-then-dots-eq0 c = record { laid = asks_nothing c.args.kind c.args.lines.now c.args.item c.args.letter c.args.constraint c.args.increases.now _ c.extra-dots.ensures (search rules); nothing = λ _. refl }
 
 pub returns-then-not-affects_some : goal.returns-then-not-affects_some
 unfolding in_turn
-returns-then-not-affects_some c = record { laid = affects-nothing c.args.batch c.args.lines.now c.args.item c.args.letter c.args.constraint c.args.increases.now c.affects_some.ensures c.if-not-affects_some.true; nothing = λ _. refl }
+returns-then-not-affects_some c = record { laid = affects-nothing c.args.kind c.args.lines.now c.args.item c.args.letter c.args.constraint c.args.increases.now c.affects_some.ensures c.if-not-affects_some.true; nothing = λ _. refl }
 
 pub share_in-requires : goal.share_in-requires
 share_in-requires c =
@@ -53,7 +56,7 @@ pub returns : goal.returns
 unfolding in_turn
 returns c =
     record {
-      laid = laid-over c.args.batch c.args.lines.now c.args.item c.args.letter c.args.constraint c.args.gains.now c.args.increases.now _ _ _ c.requires.1.within
+      laid = laid-over c.args.kind c.args.lines.now c.args.item c.args.letter c.args.constraint c.args.gains.now c.args.increases.now _ _ _ c.requires.1.within
           c.extra-dots.ensures c.share_in.ensures c.lay_over.ensures;
       nothing = λ e. absurd (true≢false e);
     }

@@ -16,4 +16,4 @@ base_asked-asked-requires c =
 pub returns : goal.returns
 returns c =
     let h : c.args.item.start < length c.args.lines.now = search rules in
-    item-taken c.args.constraint c.args.item c.args.lines.now _ _ _ _ _ c.of_row-line.ensures c.base_asked-asked.ensures c.limit_asked-limit.ensures c.larger.ensures c.with_sizes.ensures h c.requires.0 c.requires.1
+    item-taken c.args.constraint c.args.item c.args.lines.now _ _ _ _ _ c.of_row-line.ensures c.base_asked-asked.ensures c.limit_asked-limit.ensures c.max.ensures c.with_sizes.ensures h c.requires.0 c.requires.1

@@ -5,5 +5,5 @@ use Rattle.torrivask.proofs.board_call.torrivask_board.Goals as goal
 
 pub overflow_cast-tracks : goal.overflow_cast-tracks
 overflow_cast-tracks c =
-    let few = tracks-few c.args.sheet.now c.args.sizes.now c.board-answer.result _ _ _ _ c.board-answer.ensures.0 c.in-Board.is in
+    let few = tracks-few c.args.sheet.now c.args.sizes.now c.board.result _ c.in-Ok.board c.board.ensures.0 c.in-Ok.is in
     search rules

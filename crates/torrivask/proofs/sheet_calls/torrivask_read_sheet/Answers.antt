@@ -5,14 +5,12 @@ use Rattle.torrivask.proofs.sheet_calls.torrivask_read_sheet.Goals as goal
 
 pub overflow_cast-track_count : goal.overflow_cast-track_count
 overflow_cast-track_count c =
-    let few = counts-few c.args.sheet.now c.args.tracks.now c.args.items.now c.read-answer.result _ _ _ _ _ c.read-answer.ensures c.in-Sheet.is in
+    let few = counts-few c.args.sheet.now c.args.tracks.now c.args.items.now c.read.result _ _ _ c.read.ensures c.in-Ok.is in
     let track_count = few.0 in
-    let item_count = few.1 in
     search rules
 
 pub overflow_cast-item_count : goal.overflow_cast-item_count
 overflow_cast-item_count c =
-    let few = counts-few c.args.sheet.now c.args.tracks.now c.args.items.now c.read-answer.result _ _ _ _ _ c.read-answer.ensures c.in-Sheet.is in
-    let track_count = few.0 in
+    let few = counts-few c.args.sheet.now c.args.tracks.now c.args.items.now c.read.result _ _ _ c.read.ensures c.in-Ok.is in
     let item_count = few.1 in
     search rules

@@ -1,2 +1,0 @@
-pub mod SignedDots
-pub mod Told

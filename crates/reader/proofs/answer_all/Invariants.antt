@@ -1,9 +1,0 @@
--- The loop of `answer_all`: what it keeps true, and what falls.
-use Prim.Native.Nat.{◌-◌}
-use Rattle.reader.proofs.answer_all.Given as goal
-
-abbrev pub invariant-loop-i : goal.invariant-loop-i
-invariant-loop-i l = Unit {0}
-
-abbrev pub decreases-loop-i : goal.decreases-loop-i
-decreases-loop-i l = l.count - l.i

@@ -1,0 +1,6 @@
+-- The loop of `row`: reading only moves on.
+use Rattle.texts.specs.Reading.{MovesOn}
+use Rattle.texts.proofs.text.Text.row.Given as goal
+
+abbrev pub invariant-loop-place : goal.invariant-loop-place
+invariant-loop-place g l = MovesOn l.initial.self l.self

@@ -81,7 +81,8 @@ fn board_in<const TRACKS: usize, const ITEMS: usize, const HEADS: usize, const T
     )
 }
 
-// In the store that is lent, of which the layout gets as much as the sheet has tracks and items.
+// In the store that is lent, of which the layout gets as much as the sheet has tracks and items. It is lent slice by slice: a struct of
+// `&mut` would have to promise of each field that it is the same slice as before (batch.rt of `spans` says more).
 fn board_with(
     bytes: &[u8],
     tracks: &mut [[u32; 4]],

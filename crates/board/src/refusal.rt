@@ -11,6 +11,7 @@ pub enum Refusal {
     Layout(layout::Refusal),
 }
 
+// Each of the two hands on what the part says; one match for both would make a pair that no caller wants.
 impl Refusal {
     pub fn number(self) -> u32
         ensures { result ≡ number_of self }

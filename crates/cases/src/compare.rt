@@ -1,4 +1,4 @@
-// Whether two lists of rows are the same.
+// Whether two lists of rows are the same. Slices of numbers are compared by == where they stand, and rows by `same`.
 ghost use Rattle.std.specs.Prelude.{◌≡◌, IsTrue, ◌↔◌};
 
 pub fn same<const N: usize>(a: &[[u32; N]], b: &[[u32; N]]) -> bool

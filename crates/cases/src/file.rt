@@ -11,16 +11,16 @@ use texts::{Fault, Stop};
 
 // More than any file of cases has, so that each can grow: one that has as many is too long. The memory is fixed, and a file is
 // told as too long at a place that does not hang on how much of it the system gives.
-pub const MOST_BYTES: usize = 1048576;
+pub(crate) const MOST_BYTES: usize = 1048576;
 
 // Zeros, for the text. The `ensures` gives only the length, which lending the array as a slice needs.
-pub fn buffer() -> [u8; MOST_BYTES]
+pub(crate) fn buffer() -> [u8; MOST_BYTES]
     ensures { 1048576 ≡ length result }
 {
     [0; MOST_BYTES]
 }
 
-// A line on standard error: the program, the file, whose name need not be text, and what is told of it.
+// A line on standard error, of three arguments that no struct holds, since it would be made for this line alone: the program, the file, whose name need not be text, and what is told of it.
 fn print_about(rt: &HostRuntime, program: &str, path: &[u8], words: &str) {
     let _ = eprint!(rt; "{program}: ");
     let _ = rt.stderr().write_all(path);

@@ -22,7 +22,7 @@ fn next_case<'a>(text: &mut Text<'a>) -> Result<Option<&'a [u8]>, Stop>
 }
 
 // `check` reads a case, from behind its name, and says whether it agrees.
-pub fn count<'a, F: Fn(&mut Text<'a>) -> Result<bool, Stop>>(
+pub(crate) fn count<'a, F: Fn(&mut Text<'a>) -> Result<bool, Stop>>(
     bytes: &'a [u8],
     check: F,
 ) -> Result<Tally<'a>, Stop>

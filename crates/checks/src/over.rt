@@ -8,10 +8,7 @@ use sheet_kinds::{SheetTrack, Space};
 fn amount_over(amount: Option<u32>, most: u32) -> bool
     ensures { result ≡ amount_over most amount }
 {
-    match amount {
-        None => false,
-        Some(n) => n > most,
-    }
+    matches!(amount, Some(n) if n > most)
 }
 
 fn constraint_over(constraint: Constraint) -> bool

@@ -3,12 +3,12 @@ use mathlib.Core.Path.{◌≡◌, refl, sym, ap, ap₂, ◌∙◌}
 use mathlib.Core.Bool.{Bool, true, false, ◌&&◌}
 use mathlib.Core.List.{List, [], ◌∷◌, ◌++◌, map}
 use Prim.Native.Nat.{ℕ, zero, suc, ◌+◌, ◌-◌, ◌≤◌, ◌<◌}
-use native.Mathlib.Nat.{le_of_suc-le-suc, not-suc-le-zero}
+use native.Mathlib.Nat.{le_of_suc-le-suc, not-suc-le-zero, le_refl}
 use native.Mathlib.Numerals.{add-one}
 use native.Mathlib.Omega.{arith}
 use lib.Dec.{leb, ltb}
 use lib.ListN.{length, get_or, take, drop, set, length-drop}
-use Rattle.std.proofs.lemmas.List.{get_or-drop}
+use Rattle.std.proofs.lemmas.List.{get_or-drop, take_all}
 use borrow.Author.Tests.{lt-ltb, le-ltb, leb-true}
 use Rattle.laws.specs.Alls.{all-of-at}
 use Rattle.laws.specs.Tests.{both_true}
@@ -159,3 +159,7 @@ module _ (es : List ℕ) (t base : ℕ) where
       pub update-done : w ≡ true → (new : List ℕ) → new ≡ moved_from (t + 1) (width_of es t) base es → edges_outcome written new ≡ update_call es t base
       unfolding update_call
       update-done n new m = rw (← f, has-track, ← test-total, n, m, moved-is-afresh es t base (sym f) (omega arith))
+
+-- all edges from a place on
+pub whole-behind : (from : ℕ) (es : List ℕ) → take (length es - from) (drop from es) ≡ drop from es
+whole-behind from es = take_all (length es - from) (drop from es) (rw (length-drop from es) (le_refl (length es - from)))

@@ -10,7 +10,7 @@ use lib.Dec.{ltb, leb, eqb}
 use lib.ListN.{length, get_or, drop, drop_of_length-le}
 use borrow.Author.Tests.{lt-ltb, le-ltb, lt-leb, le-leb, leb-true, eqb-true}
 use Rattle.laws.specs.Tests.{lt-or-ge}
-use Rattle.laws.specs.Faults.{fine-both, fine-test, fault-not-fine}
+use Rattle.laws.specs.Faults.{fine-both, fine-test}
 use Rattle.laws.specs.Walk.{next}
 use Rattle.edges.specs.Rule.{Fault, fine, fault, first, unless, fall_fault, edges_fault}
 use Rattle.edges.specs.Steps.{is_fault}
@@ -91,11 +91,7 @@ pub rises : (es : List ℕ) → edges_fault es ≡ fine → (i j : ℕ) → i �
 rises [] f i j l h = absurd (not-suc-le-zero h)
 rises (e ∷ es) f i j l h = rises-from 1 e es (behind-fine e es f) i j l h
 
--- it has an entry, and the first is 0
-pub has-entry : (es : List ℕ) → edges_fault es ≡ fine → 0 < length es
-has-entry [] f = absurd (fault-not-fine 15 0 f)
-has-entry (e ∷ es) f = omega arith
-
+-- its first entry is 0
 pub starts-at-zero : (es : List ℕ) → edges_fault es ≡ fine → get_or es 0 0 ≡ 0
 starts-at-zero [] f = refl
 starts-at-zero (e ∷ es) f = (start_fine e es f).0

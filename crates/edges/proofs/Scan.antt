@@ -7,11 +7,14 @@ use Prim.Native.Nat.{ℕ, zero, suc, ◌+◌, ◌-◌, ◌/◌, ◌≤◌, ◌<�
 use native.Mathlib.Nat.{le_of_suc-le-suc, not-suc-le-zero}
 use native.Mathlib.Numerals.{add-one}
 use native.Mathlib.Omega.{arith}
-use lib.Dec.{leb}
+use lib.Dec.{leb, ltb}
 use lib.ListN.{length, get_or}
 use borrow.Author.Tests.{lt-ltb, le-ltb, lt-leb, le-leb}
+use Rattle.std.specs.Prelude.{Option, Ok}
+use Rattle.std.specs.Bool.{then_some}
 use Rattle.laws.specs.Tests.{lt-or-ge}
-use Rattle.edges.specs.Rule.{fine, fault, fall_fault, edges_fault, track, no_track, holds, scan_from, scan, lookup_call, touched, lookup_refused}
+use Rattle.edges.specs.Rule.{fine, fault, fall_fault, edges_fault, track, no_track, holds, scan_from, scan, lookup_call, lookup_refused}
+use Rattle.edges.specs.Answer.{lookup_told}
 use Rattle.edges.specs.Steps.{LastUpTo}
 use Rattle.edges.proofs.Falls.{fall-fine, behind-fine, rises-from, rises}
 
@@ -91,16 +94,17 @@ module _ (es : List ℕ) (dot : ℕ) (f : edges_fault es ≡ fine) where
         rw q (record { some = omega (arith, twice); within = rw same w; reached = l; past = rw same n.past }))
         (lt-or-ge dot (get_or es (at + half) 0))
 
-  -- ---- the lookup, case by case as the code goes
+  -- ---- the lookup: the last edge that is not past the dot is a track's, or the total
 
   module _ (last : ℕ) (u : LastUpTo es dot last) where
-    pub lookup-track : last < length es - 1 → touched (track last) ≡ lookup_call es dot
+    pub lookup-last : (found : Option ℕ) → found ≡ then_some (ltb last (length es - 1)) last → lookup_told (Ok found) ≡ lookup_call es dot
     unfolding lookup_call
-    lookup-track h = let n : last + 1 < length es = omega arith in rw (f, scan-found last n u.reached (u.past n))
-
-    pub lookup-none : length es - 1 ≤ last → touched no_track ≡ lookup_call es dot
-    unfolding lookup_call
-    lookup-none h = let w = u.within in let n : last + 1 ≡ length es = omega (arith, w) in rw (f, scan-none last n u.reached)
+    lookup-last found e =
+        let w = u.within in
+        ⊎_elim
+        (λ (h : last < length es - 1). let n : last + 1 < length es = omega arith in rw (e, lt-ltb last (length es - 1) h, f, scan-found last n u.reached (u.past n)))
+        (λ (h : length es - 1 ≤ last). let n : last + 1 ≡ length es = omega (arith, w) in rw (e, le-ltb last (length es - 1) h, f, scan-none last n u.reached))
+        (lt-or-ge last (length es - 1))
 
 -- a list that is refused
 pub lookup-unsorted : (es : List ℕ) (dot number place : ℕ) → fault number place ≡ edges_fault es → lookup_refused number place ≡ lookup_call es dot

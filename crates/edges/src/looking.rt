@@ -13,15 +13,11 @@ pub fn lookup(edges: &[u32], dot: u32) -> Result<Option<usize>, Refusal>
 {
     check(edges)?;
     let last = narrow(edges, dot);
-    if last < edges.len() - 1 {
-        Ok(Some(last))
-    } else {
-        Ok(None)
-    }
+    Ok((last < edges.len() - 1).then_some(last))
 }
 
 // The last entry that is not past the dot. `at` is one such, and none from `at + count` on is. The loop halves `count`, so it counts no index; the
-// library's `partition_point` branches at each half, which `farther` does not.
+// library's `partition_point`, compiled, branches at each half, which `farther` does not.
 fn narrow(edges: &[u32], dot: u32) -> usize
     requires { edges_fault edges.now ≡ fine }
     ensures { LastUpTo edges.now dot result }

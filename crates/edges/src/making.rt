@@ -46,9 +46,9 @@ fn put_edges(places: &[[u32; 2]], edges: &mut [u32])
     ensures { edges.new ≡ onto (edges_of (bases_in places.now)) edges.old }
 {
     let mut edge = 0;
-    for t in 0..places.len() {
+    for (t, place) in places.iter().enumerate() {
         edges[t] = edge;
-        edge += places[t][0];
+        edge += place[0];
     }
     edges[places.len()] = edge;
 }

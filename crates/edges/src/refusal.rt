@@ -31,9 +31,8 @@ impl Refusal {
     {
         match self {
             Refusal::LentTooShort => 0,
-            Refusal::OverLimit { track } => track,
+            Refusal::OverLimit { track } | Refusal::TrackMissing { track } => track,
             Refusal::Unsorted { entry } => entry,
-            Refusal::TrackMissing { track } => track,
         }
     }
 }

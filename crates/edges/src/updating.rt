@@ -30,7 +30,7 @@ fn move_from(from: usize, old: u32, base: u32, edges: &mut [u32])
     requires { CanMove from old base edges.old }
     ensures { edges.new ≡ moved_from from old base edges.old }
 {
-    for i in from..edges.len() {
-        edges[i] = edges[i] - old + base;
+    for edge in edges[from..].iter_mut() {
+        *edge = *edge - old + base;
     }
 }

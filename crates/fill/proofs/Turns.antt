@@ -2,7 +2,7 @@
 use Rattle.std.proofs.Common.{◌≡◌, refl, ap, ◌∙◌, List, [], ◌∷◌, Bool, true, false, cond, ℕ, suc, ◌+◌, ◌-◌, ◌≤◌, ◌<◌, length, drop, drop_of_length-le, arith}
 use Rattle.laws.specs.Walk.{next}
 use Rattle.fill.specs.Rule as Rule
-use Rattle.fill.specs.Rule.{track_of, tracks_of, room_over, first_over}
+use Rattle.fill.specs.Rule.{tracks_of, room_over, first_over}
 use Rattle.rounds.specs.Rests.{cap_of, caps, lost}
 use Rattle.fill.specs.declared.tracks.Tracks.{Tracks}
 use Rattle.fill.specs.Tracks.{track_at}

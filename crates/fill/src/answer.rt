@@ -25,8 +25,7 @@ impl Refusal {
     {
         match self {
             Refusal::Lists => 12,
-            Refusal::Dots => 7,
-            Refusal::Room { track: _ } => 7,
+            Refusal::Dots | Refusal::Room { .. } => 7,
         }
     }
 
@@ -34,8 +33,7 @@ impl Refusal {
         ensures { result ≡ place_of self }
     {
         match self {
-            Refusal::Lists => 0,
-            Refusal::Dots => 0,
+            Refusal::Lists | Refusal::Dots => 0,
             Refusal::Room { track } => 1 + track as u32,
         }
     }

@@ -7,7 +7,7 @@ ghost use Rattle.fill.specs.Answer.{ListsFit};
 use crate::answer::Refusal;
 use kinds::{Constraint, Track};
 
-// Which tracks are affected, which have a limit, and their rooms up to it. Where a track has no limit its room means nothing.
+// Which tracks are affected, which have a limit, and their rooms up to it: C lends mark and number apart. Where a track has no limit its room means nothing.
 #[derive(Clone, Copy)]
 pub struct Tracks<'a> {
     affected: &'a [bool],
@@ -66,7 +66,7 @@ impl<'a> Tracks<'a> {
         if self.affected[i] { most } else { 0 }
     }
 
-    // Refuses the first track whose room is over the limit, affected or not.
+    // Refuses the first track whose room is over the limit, affected or not. A `for`, and no `position`: it looks into two lists at one index.
     pub fn check_rooms(&self) -> Result<(), Refusal>
         ensures { MatchResult result
             (λ _. length self.now.rooms.now ≤ first_over (in_rule self.now))

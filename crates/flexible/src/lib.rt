@@ -1,5 +1,5 @@
-// The flexible tracks: step 6 of the sizing (the rule is in the specs of lines). Lines and marks stay two lent slices: no heap, and a struct
-// of them would be no plainer (spans/src/batch.rt says why).
+// The flexible tracks: step 6 of the sizing (the rule is in the specs of lines). Lines and marks stay two lent slices: both are
+// cut for one item (`&lines[a..e], &mut held[a..e]`), where a struct of them would be taken apart at once.
 #![tactic(auto)]
 
 mod grow;
@@ -49,6 +49,6 @@ fn fr_over(
     match e {
         Constraint::Definite(n) if total < n as u64 => search::search_over(n, lines, held),
         Constraint::MaxContent => max_content::max_content_fr(batch, lines, held),
-        _ => Fr { dots: 0, per: 1000 },
+        _ => Fr::NONE,
     }
 }

@@ -37,7 +37,7 @@ fn line_fr(row: [u32; 8], fr: Fr) -> Fr
 pub fn bases_fr(lines: &[[u32; 8]]) -> Fr
     ensures { result ≡ bases_fr (lines_of lines.now) }
 {
-    let mut fr = Fr { dots: 0, per: 1000 };
+    let mut fr = Fr::NONE;
     for row in lines {
         fr = line_fr(*row, fr);
     }

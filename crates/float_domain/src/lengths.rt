@@ -6,7 +6,8 @@ ghost use Rattle.float_domain.specs.Answer.{fault_of};
 use crate::refusal::Refusal;
 use float_track::Track;
 
-// The first slice has n places, and the others as many as they say.
+// The first slice has n places, and the others as many as they say. They are walked by `for`: over `all` the proof that the rule's
+// `lengths_fit` says the same did not close.
 pub fn lengths_fault(n: usize, others: &[usize]) -> Result<(), Refusal>
     ensures { fault_of result ≡ lengths_fault n others.now }
 {

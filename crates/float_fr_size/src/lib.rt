@@ -100,6 +100,7 @@ impl<'a> Flexes<'a> {
         sums
     }
 
+    // A `for`, since the rule says it of each place below a number: over `all` of a range the proof did not close.
     fn all_hold(&self, fr: f32, previous: f32) -> bool
         ensures { result ≡ over all_hold self.now fr previous }
     {

@@ -3,7 +3,7 @@
 #![tactic(auto)]
 
 ghost use Rattle.std.specs.Prelude.{◌≡◌, ◌<◌, length};
-ghost use Rattle.laws.specs.Lists.{every};
+ghost use Rattle.std.specs.List.{list_all};
 ghost use Rattle.float_laws.specs.Sum.{sum_of};
 ghost use Rattle.float_gutters.specs.Gutters.{outer_weight, inner_weight, itself, free_of, adjustment, gutter_adjustment, GutterCount};
 
@@ -46,14 +46,9 @@ impl AlignContent {
 }
 
 fn all_known(known: &[bool]) -> bool
-    ensures { result ≡ every itself known.now }
+    ensures { result ≡ list_all itself known.now }
 {
-    for is_known in known {
-        if !*is_known {
-            return false;
-        }
-    }
-    true
+    known.iter().all(|is_known| *is_known)
 }
 
 fn sum_of(estimates: &[f32]) -> f32
@@ -66,7 +61,9 @@ fn sum_of(estimates: &[f32]) -> f32
     sum
 }
 
-// What the tracks leave free of a size: nothing where an estimate is absent.
+// What the tracks leave free of a size: nothing where an estimate is absent. The marks and the estimates are apart, here and below, since C lends
+// them so.
+#[tactic(auto, using(crate::proofs::Known::every_of_all))]
 fn free_of(size: f32, known: &[bool], estimates: &[f32]) -> f32
     ensures { result ≡ free_of size known.now estimates.now }
 {

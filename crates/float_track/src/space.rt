@@ -1,4 +1,4 @@
-// Available space, and the free space that it leaves.
+// Available space, and the free space that it leaves. This is the Rust's own type, over f32; beside it stands `Constraint` of the crate kinds, over u32.
 ghost use Rattle.std.specs.Prelude.{◌≡◌};
 ghost use Rattle.float_track.specs.Space.{free_space, stretch_space};
 

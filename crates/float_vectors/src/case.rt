@@ -16,7 +16,8 @@ use floats::Track;
 // More than the most tracks, so that lists that are too long for the routines can be tried.
 const MOST_ENTRIES: usize = 300;
 
-// The number of each routine; 0 and 1 are the flushes.
+// The number of each routine; 0 and 1 are the flushes. They are numbers since the files of cases hold such, and `Text::call` has bounded
+// what is read: the arm of all others takes the last of them.
 const FLUSH_BASE: u32 = 0;
 
 const GUTTER: u32 = 2;

@@ -1,4 +1,5 @@
 // The numbers of a case that stand for one of a few: the kind of a space, whether a size is given, an alignment.
+// They are the case file's numbers and not C's, and are read here alone, so that no case is read by what it tests.
 ghost use Rattle.std.specs.Prelude.{◌≡◌};
 ghost use Rattle.float_vectors.specs.Choices.{size_as, space_as, alignment_as};
 

@@ -27,7 +27,8 @@ pub struct Board {
 }
 
 // 6, then 7 to 10, then the sizes: base and limit of track t become `sizes[t]`; those past the tracks, and all of them after a refusal,
-// keep what they hold. Between items and sizes stands the store of the sizing.
+// keep what they hold. Between items and sizes stands the store of the sizing, lent slice by slice: a struct of `&mut` would have to promise of each field that it is
+// the same slice as before (batch.rt of `spans` says more).
 pub fn lay_out(
     space: Space,
     tracks: &[[u32; 4]],

@@ -4,7 +4,7 @@ ghost use Rattle.std.specs.Prelude.{◌≡◌, true, ◌+◌, ◌≤◌, ◌<◌
 ghost use mathlib.Core.List.{zip_with};
 ghost use Rattle.laws.specs.Lists.{some};
 ghost use Rattle.laws.specs.Sums.{sum};
-ghost use Rattle.rounds.specs.Rule.{most_tracks, most_dots};
+ghost use Rattle.rounds.specs.Rule.{most_dots};
 ghost use Rattle.lines.specs.ByFactor.{quota, quotas, dots_over, by_factors};
 ghost use Rattle.lines.specs.Rule.{affects_fr, shares_by_factor};
 ghost use Rattle.lines.specs.Rows.{line_of, lines_of};

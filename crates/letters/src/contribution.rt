@@ -1,5 +1,5 @@
 // What an item contributes to a letter, and the dots that it asks beyond the sizes it spans.
-ghost use Rattle.std.specs.Prelude.{◌≡◌, map, ℕ, ◌-◌, ◌≤◌, length};
+ghost use Rattle.std.specs.Prelude.{◌≡◌, map, ◌-◌, ◌≤◌, length};
 ghost use Rattle.laws.specs.Sums.{sum};
 ghost use Rattle.rounds.specs.Rule.{most_tracks};
 ghost use Rattle.lines.specs.Rule.{maxima, limited, for_auto, extra_of};

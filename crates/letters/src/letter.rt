@@ -30,7 +30,7 @@ fn by_minimum(line: Line, auto: bool, min_content: bool, max_content: bool) -> b
     }
 }
 
-// Whether a maximum is of a wanted kind; fixed and fr never are, auto and max-content go together.
+// Whether a maximum is of a wanted kind; fixed and fr never are, auto and max-content go together. Flags as above.
 pub(crate) fn by_maximum(line: Line, wide: bool, min_content: bool, fit_content: bool) -> bool
     ensures { result ≡ by_maximum line.track.maximum wide min_content fit_content }
 {
@@ -97,16 +97,6 @@ impl Letter {
         match self {
             Letter::E | Letter::F => room,
             _ => None,
-        }
-    }
-
-    // The size that a contribution is measured against.
-    pub fn present(self, line: Line) -> u32
-        ensures { result ≡ (letter_of self).present line }
-    {
-        match self {
-            Letter::E | Letter::F => line.limit_size(),
-            _ => line.base,
         }
     }
 

@@ -1,7 +1,8 @@
 // Shares of dots among lines: each gets what the fill gives it, on top of the gain that it has. The two shares of a letter find
 // each cap once, and keep it in the gain while the rounds run. The rests are scratch: what stands in them is not read.
 // Lines, gains and rests stay three slices and no struct: a caller cuts its part of each for one item, `share_out` takes increases for gains,
-// and the rounds take the rests alone.
+// and the rounds take the rests alone. That lines fit, and that dots are no more than the most, stay clauses: each is a bound that the caller has, and
+// a type for it would be taken off at the first sum.
 ghost use Rattle.std.specs.Prelude.{◌≡◌, cond, not, ◌&&◌, ◌||◌, ◌+◌, ◌≤◌, length};
 ghost use mathlib.Core.List.{[], ◌∷◌, map, zip_with};
 ghost use Rattle.laws.specs.Lists.{some};
@@ -21,6 +22,7 @@ use lines::Line;
 use rounds::run_rounds;
 
 // What is shared out by one fill alone: the dots of step 5, those of step 7, or those of a letter in the last batch where all factors are 0.
+// An enum, and no function handed over: `load` and `collect` both find each cap by it.
 #[derive(Clone, Copy)]
 pub enum Share {
     Maximise,
@@ -101,7 +103,8 @@ pub fn share_out(
     done.rounds
 }
 
-// The caps of a letter's first share: the rounds run on the rests, and the gains keep them.
+// The caps of a letter's first share: the rounds run on the rests, and the gains keep them. A walk of its own beside `load_rest`, which adds to
+// gains that stand: one for both would take a pass more.
 fn load_first(letter: Letter, dots: u32, lines: &[[u32; 8]], gains: &mut [u32], rests: &mut [u32])
     requires { Scratch lines.now gains.old rests.old }
     ensures { (gains.new ≡ first_caps letter dots lines.now)

@@ -1,4 +1,4 @@
-// Whether some line passes a test.
+// Whether some line passes a test. A `for`, and no `any`: over a test that is handed over, `any` was tried, and its proof did not close.
 ghost use Rattle.std.specs.Prelude.{◌≡◌, Bool};
 ghost use Rattle.laws.specs.Lists.{some};
 ghost use Rattle.lines.specs.declared.line.Line.{Line};

@@ -8,14 +8,10 @@ use lib.ListN.{length, get_or}
 use borrow.Author.Tests.{lt-ltb, le-ltb}
 use Rattle.laws.specs.Tests.{lt-or-ge}
 use Rattle.laws.specs.Lists.{All, in_turn}
-use mathlib.Core.Bool.{true, false}
 use Rattle.kinds.specs.Kinds.{Row, item_of}
 use Rattle.kinds.specs.declared.item.Item.{Item}
-use Rattle.spanned.specs.Rule.{lacks_contribution}
 use Rattle.lines.specs.declared.measured.Measured.{Measured}
 use Rattle.lines.specs.Rule.{complete}
-use Rattle.lines.specs.Parts.{measured_of}
-use Rattle.lines.proofs.Parted.{complete-none, complete-one}
 use Rattle.lines.specs.Chains.{Rising, chain_from, chain, part_at, chained}
 
 -- past the items there is nothing
@@ -58,18 +54,12 @@ pub chained-next : (rows : List Row) (nexts : List ℕ) (i : ℕ) → Rising nex
 unfolding chained flat_map
 chained-next rows nexts i r h = rw (chain_next nexts i r h) refl
 
--- the item at i takes no part, or it comes first
+-- the item at i comes first where it takes part
 module _ (rows : List Row) (nexts : List ℕ) (i : ℕ) (r : Rising nexts) (h : i < length nexts) (item : Item) (read : item ≡ item_of (get_or rows i [])) where
-  pub chained-passes : lacks_contribution item ≡ true → chained rows nexts (get_or nexts i 0) ≡ chained rows nexts i
-  chained-passes lacking =
-      ap (◌++ chained rows nexts (get_or nexts i 0)) (sym (complete-none item lacking) ∙ ap (λ (j : Item). complete j) read)
-      ∙ sym (chained-next rows nexts i r h)
-
-  pub chained-gives : lacks_contribution item ≡ false → (m : Measured) → m ≡ measured_of item → chained rows nexts i ≡ m ∷ chained rows nexts (get_or nexts i 0)
-  chained-gives whole m e =
+  pub chained-step : (ms : List Measured) → ms ≡ complete item → chained rows nexts i ≡ ms ++ chained rows nexts (get_or nexts i 0)
+  chained-step ms e =
       chained-next rows nexts i r h
-      ∙ ap (◌++ chained rows nexts (get_or nexts i 0)) (sym (ap (λ (j : Item). complete j) read) ∙ complete-one item whole)
-      ∙ ap (◌∷ chained rows nexts (get_or nexts i 0)) (sym e)
+      ∙ ap (◌++ chained rows nexts (get_or nexts i 0)) (sym (e ∙ ap (λ (j : Item). complete j) read))
 
 -- ---- A walk over items, or whatever stands in a list, one after another: w is what the whole walk makes of s
 

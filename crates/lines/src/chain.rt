@@ -6,7 +6,6 @@ ghost use Rattle.lines.specs.Chains.{Rising, chained};
 
 use crate::Measured;
 use kinds::Item;
-use spanned::lacks_contribution;
 use std::marker::Model;
 
 // A clause sees the items that are left.
@@ -73,8 +72,8 @@ impl<'a> Iterator for Chain<'a> {
         while self.next < self.items.len() {
             let item = Item::of_row(self.items[self.next]);
             self.next = self.nexts[self.next];
-            if !lacks_contribution(item) {
-                return Some(Measured::of(item));
+            if let Some(measured) = Measured::of(item) {
+                return Some(measured);
             }
         }
         None

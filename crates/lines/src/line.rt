@@ -1,5 +1,7 @@
 // A track at work: its kinds, its base size and growth limit, and whether the limit is infinitely growable. The working
-// store holds it as a row of eight numbers: the sheet's four, base, limit, limited 0 or 1, growable 0 or 1.
+// store holds it as a row of eight numbers: the sheet's four, base, limit, limited 0 or 1, growable 0 or 1. Rows, and no slice of `Line`: the searches
+// read base and factor straight off them, and an item's part is cut from them; a slice of structs with enums has not been measured against the speed
+// asked for.
 ghost use Rattle.std.specs.Prelude.{◌≡◌};
 ghost use Rattle.kinds.specs.Kinds.{track_of};
 ghost use Rattle.lines.specs.Rule.{line, argument, limit_size, base_room, start_base, start_limit, start_line};

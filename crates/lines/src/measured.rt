@@ -1,11 +1,10 @@
 // An item at work: what it spans, and its three contributions in one row, all of them given. One that lacks a contribution takes no part;
 // refusal 9 has met it before.
-ghost use Rattle.std.specs.Prelude.{◌≡◌, false};
-ghost use Rattle.spanned.specs.Rule.{lacks_contribution};
-ghost use Rattle.lines.specs.Rule.{contribution_at};
-ghost use Rattle.lines.specs.Parts.{measured_of};
+ghost use Rattle.std.specs.Prelude.{◌≡◌};
+ghost use Rattle.lines.specs.Rule.{complete, contribution_at};
+ghost use Rattle.lines.specs.Parts.{given};
 
-use kinds::{ContributionKind, Item, amount};
+use kinds::{ContributionKind, Item};
 
 #[derive(Clone, Copy)]
 pub struct Measured {
@@ -15,23 +14,18 @@ pub struct Measured {
 }
 
 impl Measured {
-    // The item at work. Only of one that lacks no contribution: an absent one is no number.
-    pub fn of(item: Item) -> Measured
-        requires { lacks_contribution item ≡ false }
-        ensures { result ≡ measured_of item }
+    // The item at work, or none where it lacks a contribution.
+    pub fn of(item: Item) -> Option<Measured>
+        ensures { given result ≡ complete item }
     {
-        let minimum = item.amount(ContributionKind::Minimum);
-        let min_content = item.amount(ContributionKind::MinContent);
-        let max_content = item.amount(ContributionKind::MaxContent);
-        Measured {
+        let minimum = item.amount(ContributionKind::Minimum)?;
+        let min_content = item.amount(ContributionKind::MinContent)?;
+        let max_content = item.amount(ContributionKind::MaxContent)?;
+        Some(Measured {
             start: item.start,
             span: item.span,
-            row: [
-                amount::number(minimum),
-                amount::number(min_content),
-                amount::number(max_content),
-            ],
-        }
+            row: [minimum, min_content, max_content],
+        })
     }
 
     // The contribution of a kind.

@@ -45,6 +45,7 @@ fn put_track_lines(at: usize, tracks: usize, sizes: &[[u32; 2]], into: &mut [u8]
     ensures { Putting (most_track_line * tracks) at (track_lines 0 (take tracks sizes.now)) into.old into.new result }
 {
     let mut next = at;
+    // By index: the proof of a walk over `sizes[..tracks]` did not close.
     for t in 0..tracks {
         next = put_track_line(next, t, sizes[t], into);
     }

@@ -118,10 +118,7 @@ fn answer_file(rt: &HostRuntime, name: &[u8]) -> Result<(), Untaken> {
 fn word_at(rt: &HostRuntime, i: usize, into: &mut [u8]) -> usize
     ensures { IsPrefixLen result into.new }
 {
-    match rt.arg(i, into) {
-        Ok(length) => length,
-        Err(_) => 0,
-    }
+    rt.arg(i, into).unwrap_or(0)
 }
 
 // Each sheet in turn, until one cannot be written out. Help and options were looked at before: what still begins with a dash is a name.

@@ -1,5 +1,7 @@
 // What a word of the command line is.
+ghost use Rattle.std.specs.Prelude.{◌≡◌, true, false};
 ghost use Rattle.reader.specs.Words.{Says};
+ghost use Rattle.reader.specs.declared.words.Word.TheVariants.{Name};
 
 #[derive(Clone, Copy)]
 pub enum Word {
@@ -28,6 +30,9 @@ pub fn word_of(word: &[u8]) -> Word
 }
 
 // Behind `--` every word is a name.
-pub fn word_behind(is_past: bool, word: &[u8]) -> Word {
+pub fn word_behind(is_past: bool, word: &[u8]) -> Word
+    ensures past { is_past ≡ true → result ≡ Name }
+    ensures before { is_past ≡ false → Says result word.now }
+{
     if is_past { Word::Name } else { word_of(word) }
 }

@@ -1,5 +1,6 @@
 // Numbers of two and of four bytes, little-endian: a number of four is two halves, the lower one first. The rule says them so, and an array
-// that is cut off a slice for the library's conversion would be no plainer.
+// that is cut off a slice for the library's conversion would be no plainer. Bytes and place stay two arguments, here and above: the rule
+// names both, as in the promises of the sheet's `fault_from` and `end_from`.
 ghost use Rattle.std.specs.Prelude.{◌≡◌, [], ◌∷◌, ◌+◌, ◌≤◌, ◌<◌, length};
 ghost use Rattle.laws.specs.Put.{put};
 ghost use Rattle.records.specs.Rule.{byte_at, two_at, four_at, two_bytes, four_bytes};

@@ -8,6 +8,7 @@ use crate::refusal::{Refusal, unless};
 use kinds::{Constraint, amount};
 use sheet_kinds::{Axis, SheetMaximum, SheetMinimum};
 
+// A tag has a number of use beside it, one of none, or is not listed: three cases, which no Option says.
 #[derive(Clone, Copy)]
 pub enum Use {
     Carries,

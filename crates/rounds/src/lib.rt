@@ -18,7 +18,7 @@ pub struct Rounds {
     pub rounds: u32,
 }
 
-// Rounds while dots and open tracks remain.
+// Rounds while dots and open tracks remain: how many is not known before, so that no `for` counts them.
 pub fn run_rounds(dots: u32, rests: &mut [u32]) -> Rounds
     requires { length rests.old ≤ most_tracks }
     ensures { fill_rests dots rests.old ≡ state_of rests.new result.left result.rounds }

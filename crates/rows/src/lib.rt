@@ -1,5 +1,6 @@
 // A record as a row of numbers: read off the bytes, looked through for faults, and put back into bytes (the rule is that of
-// `records`). Its functions are for the sheet, the fault of a space's row also for the C face: each says what it asks.
+// `records`). Its functions are for the sheet, the fault of a space's row also for the C face: each says what it asks. Bytes and place stay two
+// arguments: the rule's `row_at` and `row_fault` name both.
 #![tactic(auto)]
 
 mod item;

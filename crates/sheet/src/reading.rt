@@ -6,8 +6,7 @@ ghost use Rattle.records.specs.Answer.{fault_of};
 ghost use Rattle.sheet.specs.Rule.{record_size, rows_at, sheet_from, sheet_fault, first, read_sheet, read_call};
 ghost use Rattle.sheet.specs.Answer.{enough_rows, read_leaves, Loadable};
 
-use crate::sections;
-use crate::sections::{COUNT_SIZE, SPACE_AT, TRACKS_AT};
+use crate::sections::{self, COUNT_SIZE, SPACE_AT, TRACKS_AT};
 use records::numbers::two_at;
 use records::{Refusal, unless};
 use rows::{ItemRow, RecordRow, TrackRow};

@@ -1,5 +1,5 @@
 // The sections of a sheet, front to back: what is wrong with each, and where each stands. A sheet begins at a place of a run of bytes, and
-// every place that is told is one of the run.
+// every place that is told is one of the run. Bytes and place stay two arguments: the promises of `fault_from` and `end_from` name both.
 #![tactic(auto, unfolding(records::specs::Rule::record_size))]
 
 ghost use Rattle.std.specs.Prelude.{◌≡◌, ℕ, ◌+◌, ◌≤◌, Bool, leb, length};

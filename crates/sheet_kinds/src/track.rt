@@ -5,8 +5,8 @@ ghost use Rattle.sheet_kinds.specs.Rule.{resolved_minimum, resolved_maximum, res
 
 use kinds::{Maximum, Minimum, Track};
 
-// Types of their own, beside those of `kinds`: a sheet gets kinds that the sizing never sees, and the rule (specs/Rule.antt) says how each
-// is sized.
+// Types of their own, beside those of `kinds`: a sheet gets kinds that the sizing never sees, and the rule's `resolved` (specs/Rule.antt),
+// from the one to the other, says how each is sized; the edit auto_resolved_as_min_content stands on it.
 #[derive(Clone, Copy)]
 pub enum SheetMinimum {
     Fixed(u32),

@@ -10,7 +10,8 @@ const MOST_TRACKS: usize = 300;
 
 const MOST_ITEMS: usize = 1100;
 
-// The number of each call.
+// The number of each call. They are numbers since the files of cases hold such, and `Text::call` has bounded what is read: the arm of all
+// others takes the last of them.
 const READ: u32 = 0;
 
 const WRITE: u32 = 1;

@@ -69,11 +69,8 @@ pub(crate) fn stretch(
     if !asked {
         return;
     }
-    match expansion {
-        Constraint::Definite(n) => {
-            let dots = beyond(n, base_total(lines));
-            fill_bases(Share::Stretch, dots, lines, increases, rests);
-        }
-        _ => {}
+    if let Constraint::Definite(n) = expansion {
+        let dots = beyond(n, base_total(lines));
+        fill_bases(Share::Stretch, dots, lines, increases, rests);
     }
 }

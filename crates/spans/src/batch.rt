@@ -1,6 +1,7 @@
 // Step 3: one batch of items, letter by letter. The store stays five slices and no struct: no heap, so all five are lent; a letter changes the
 // lines before it makes the totals anew, so that no invariant over them holds at each write; and a function on a struct of `&mut` would
-// have to promise of each field that it is the same slice as before.
+// have to promise of each field that it is the same slice as before. Kind, letter and constraint stay three words to copy, which each function hands on:
+// a struct of them would be made anew for each letter.
 ghost use Rattle.std.specs.Prelude.{◌≡◌, false, [], ◌∷◌, length};
 ghost use Rattle.lines.specs.Rule.{raise};
 ghost use Rattle.lines.specs.Rows.{lines_of};
@@ -240,7 +241,7 @@ pub fn longer(
         × Working lines.new increases.new gains.new rests.new sums.new
         × Calm (lines_of lines.new) }
 {
-    for k in 2..lines.len() + 1 {
+    for k in 2..=lines.len() {
         batched(
             Batch::OfSpan,
             constraint,

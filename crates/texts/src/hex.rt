@@ -1,5 +1,5 @@
 // A list of bytes in hex: its length, then groups of bytes, two digits each; a group may be repeated, as in 3x00FF.
-ghost use Rattle.std.specs.Prelude.{◌≡◌, ◌≤◌, ◌<◌, length, IfOk, IfSome};
+ghost use Rattle.std.specs.Prelude.{◌≤◌, ◌<◌, length, IfOk, IfSome};
 
 use crate::fault::{Fault, Stop};
 use crate::text::Text;

@@ -1,5 +1,5 @@
 // A list of the text: its length, then so many entries, into memory that the caller lends.
-ghost use Rattle.std.specs.Prelude.{◌≡◌, ◌≤◌, length, IfOk};
+ghost use Rattle.std.specs.Prelude.{◌≤◌, length, IfOk};
 
 use crate::fault::{Fault, Stop};
 use crate::text::Text;

@@ -1,5 +1,5 @@
 // One number or one mark of the text, after the blanks and line ends before it; and how often what follows is repeated.
-ghost use Rattle.std.specs.Prelude.{◌≡◌, ◌≤◌, IfOk};
+ghost use Rattle.std.specs.Prelude.{◌≤◌, IfOk};
 
 use crate::fault::{Fault, Stop};
 use crate::runs::Run;

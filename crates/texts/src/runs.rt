@@ -14,8 +14,8 @@ impl Run {
         ensures { result ≡ run_has self byte }
     {
         match self {
-            Run::Blanks => byte == b' ' || byte == b'\n',
-            Run::Digits => byte >= b'0' && byte <= b'9',
+            Run::Blanks => matches!(byte, b' ' | b'\n'),
+            Run::Digits => byte.is_ascii_digit(),
             Run::Line => byte != b'\n',
         }
     }

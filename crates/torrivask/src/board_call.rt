@@ -3,6 +3,8 @@ ghost use Rattle.std.specs.Prelude.{◌≡◌};
 ghost use Rattle.board.specs.Rule.{board_call};
 ghost use Rattle.torrivask.specs.Board.{board_left, board_face};
 
+use crate::refused::refused;
+
 #[unsafe(no_mangle)]
 pub extern "C" fn torrivask_board(
     sheet: &[u8],
@@ -25,9 +27,6 @@ pub extern "C" fn torrivask_board(
             }
             0
         }
-        Err(refusal) => {
-            *place = refusal.place() as u64;
-            refusal.number()
-        }
+        Err(refusal) => refused(refusal, place),
     }
 }

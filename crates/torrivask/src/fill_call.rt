@@ -3,6 +3,8 @@ ghost use Rattle.std.specs.Prelude.{◌≡◌};
 ghost use Rattle.fill.specs.Rule.{fill_call};
 ghost use Rattle.torrivask.specs.Fill.{fill_left, fill_face};
 
+use crate::refused::refused;
+
 #[unsafe(no_mangle)]
 pub extern "C" fn torrivask_fill(
     dots: u32,
@@ -22,9 +24,6 @@ pub extern "C" fn torrivask_fill(
             *rounds = filled.rounds;
             0
         }
-        Err(refusal) => {
-            *place = u64::from(refusal.place());
-            refusal.number()
-        }
+        Err(refusal) => refused(refusal, place),
     }
 }

@@ -1,23 +1,14 @@
 // The float routines. A track is a row of five floats: base size, growth limit, the planned increase of each, incurred
 // increase. 4 is a kind of space or an alignment that is not listed; it comes before every other refusal, at place 0.
 ghost use Rattle.std.specs.Prelude.{◌≡◌, false};
-ghost use Rattle.float_domain.specs.Answer.{number_of, place_of};
 ghost use Rattle.float_track.specs.Track.{track_of};
 ghost use Rattle.floats.specs.Rule.{flush_base_call, flush_limit_call, distribution_call, fr_call};
 ghost use Rattle.torrivask.specs.Words.{size_as, space_as, alignment_as};
 ghost use Rattle.torrivask.specs.Face.{track_left, track_face, marked_left, marked_face, number_left, number_face, shared_left, shared_face, tracks_left, tracks_face, gutter_face, maximise_face, stretch_face};
 
+use crate::refused::refused;
 use crate::words::{alignment_of, size_of, space_of};
-use floats::{Refusal, Track};
-
-// A call that was refused: its number, with its place written.
-fn refused(refusal: Refusal, place: &mut u64) -> u32
-    ensures code { result ≡ number_of refusal }
-    ensures at { place.new ≡ place_of refusal }
-{
-    *place = refusal.place() as u64;
-    refusal.number()
-}
+use floats::Track;
 
 // A word that is not listed.
 fn unlisted(place: &mut u64) -> u32

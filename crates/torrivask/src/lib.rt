@@ -5,5 +5,6 @@
 mod board_call;
 mod fill_call;
 mod float_calls;
+mod refused;
 mod sheet_calls;
 mod words;

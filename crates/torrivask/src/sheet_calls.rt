@@ -5,6 +5,7 @@ ghost use Rattle.sheet.specs.Rule.{read_call, write_call, end_call};
 ghost use Rattle.sheet.specs.Answer.{write_leaves};
 ghost use Rattle.torrivask.specs.Sheets.{read_left, read_face, row_sheet, write_left, write_face, end_left, end_face};
 
+use crate::refused::refused;
 use records::Refusal;
 use rows::{ItemRow, RecordRow, TrackRow};
 use sheet::{Space, SpaceRow};
@@ -28,10 +29,7 @@ pub extern "C" fn torrivask_read_sheet(
             *item_count = contents.items as u32;
             0
         }
-        Err(refusal) => {
-            *place = refusal.place() as u64;
-            refusal.number()
-        }
+        Err(refusal) => refused(refusal, place),
     }
 }
 
@@ -51,10 +49,7 @@ pub extern "C" fn torrivask_write_sheet(
             *length = size as u64;
             0
         }
-        Err(refusal) => {
-            *place = refusal.place() as u64;
-            refusal.number()
-        }
+        Err(refusal) => refused(refusal, place),
     }
 }
 
@@ -80,9 +75,6 @@ pub extern "C" fn torrivask_sheet_end(bytes: &[u8], end: &mut u64, place: &mut u
             *end = at as u64;
             0
         }
-        Err(refusal) => {
-            *place = refusal.place() as u64;
-            refusal.number()
-        }
+        Err(refusal) => refused(refusal, place),
     }
 }

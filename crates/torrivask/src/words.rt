@@ -1,4 +1,5 @@
 // C's numbers in the words of the core: the kind of a space, a size that may be absent, an alignment. A number that is not listed is none of them.
+// They are numbers because the C interface hands numbers; the case files have a reading of their own, so that no case is read by what it tests.
 ghost use Rattle.std.specs.Prelude.{◌≡◌};
 ghost use Rattle.torrivask.specs.Words.{space_as, size_as, alignment_as};
 

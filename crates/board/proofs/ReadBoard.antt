@@ -1,6 +1,5 @@
 -- Reading with rows for every record: 6 is never met, and the first rows read are the sheet's. Assumes nothing.
 use mathlib.Core.Path.{◌≡◌, refl, sym, ap, ◌∙◌}
-use mathlib.Core.Bool.{true}
 use mathlib.Core.List.{List, map}
 use Prim.Native.Nat.{ℕ, ◌≤◌}
 use native.Mathlib.Omega.{arith}
@@ -27,9 +26,6 @@ use Rattle.layout.specs.Rule.{layout_call}
 use Rattle.layout.specs.declared.Board.{Board}
 use Rattle.layout.specs.declared.refusal.Refusal as layout
 use Rattle.board.specs.Rule.{BoardTold, board_outcome, sheet_layout, board_call}
-use Rattle.sheet.specs.Few.{says_few}
-use Rattle.sheet.proofs.Few.{few-counts}
-use Rattle.board.specs.Store.{few}
 use Rattle.board.specs.Answer.{board_told, board_leaves, own, own_answer}
 use Rattle.board.specs.declared.refusal.Refusal as own
 use Rattle.board.specs.declared.refusal.Refusal.TheVariants as refusals
@@ -60,10 +56,6 @@ module _ (bytes : List ℕ) (tracks items : List Row) where
   pub large-rows : length tracks ≡ most_tracks → length items ≡ most_items → read_fault bytes tracks items ≡ sheet_fault bytes
   large-rows lt li = read-fault (λ e. let ok = accepted bytes e in (rw lt ok.from.few_tracks, rw li ok.from.few_items))
 
-  -- a sheet that says few has room in few
-  pub small-rows : says_few bytes few few ≡ true → length tracks ≡ few → length items ≡ few → read_fault bytes tracks items ≡ sheet_fault bytes
-  small-rows says lt li = read-fault (λ _. let counts = few-counts bytes few few says in (rw lt counts.0, rw li counts.1))
-
 -- ---- the call
 
 -- rows are lent before, and `ts` and `is` stand there after
@@ -86,15 +78,13 @@ module _ (bytes : List ℕ) (tracks items : List Row) (enough : read_fault bytes
   pub record BoardRead (space : Space) (n m : ℕ) : Type 0 where
     pub rows : SheetRead bytes tracks items ts is space n m
     pub few_tracks : n ≤ most_tracks
-    pub tracks_fit : n ≤ length tracks
-    pub items_fit : m ≤ length items
 
   pub board-read : (a : Result Contents Refusal) (contents : Contents) → a ≡ Ok contents → read_leaves a ts is ≡ read_call bytes tracks items
-      → length ts ≡ length tracks → length is ≡ length items → BoardRead contents.space contents.tracks contents.items
-  board-read a contents is-sheet e lt li =
+      → BoardRead contents.space contents.tracks contents.items
+  board-read a contents is-sheet e =
       let rows = sheet-of-read bytes tracks items a ts is e contents is-sheet in
       let few = counts-few bytes tracks items a ts is contents e is-sheet in
-      record { rows = rows; few_tracks = few.0; tracks_fit = rw (← lt) rows.track_rows; items_fit = rw (← li) rows.item_rows }
+      record { rows = rows; few_tracks = few.0 }
 
   -- and laid out
   pub board-of-sheet : (space : Space) (n m : ℕ) → BoardRead space n m → (sizes : List Row) (laid : Result Board layout.Refusal) (after : List Row)

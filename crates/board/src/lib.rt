@@ -4,10 +4,15 @@
 
 mod refusal;
 
-ghost use Rattle.std.specs.Prelude.{◌≡◌, ◌+◌, ◌≤◌};
+ghost use Rattle.std.specs.Prelude.{◌≡◌, ◌+◌, ◌≤◌, map, length, take};
 ghost use Rattle.rounds.specs.Rule.{most_tracks};
 ghost use Rattle.sheet.specs.Rule.{most_items};
 ghost use Rattle.lines.specs.Chains.{batches};
+ghost use Rattle.kinds.specs.Kinds.{item_of};
+ghost use Rattle.sheet_kinds.specs.Kinds.{sheet_track_of};
+ghost use Rattle.sizing.specs.Store as sizing;
+ghost use Rattle.layout.specs.Rule.{layout_call};
+ghost use Rattle.layout.specs.Answer.{layout_leaves};
 ghost use Rattle.board.specs.Rule.{board_call};
 ghost use Rattle.board.specs.Store.{Enough, Store};
 ghost use Rattle.board.specs.Answer.{board_leaves, own_answer};
@@ -16,8 +21,10 @@ use chains::MORE_BATCHES;
 use kinds::{Item, Track};
 pub use layout::Board;
 use layout::lay_out;
+use letters::Totals;
+use lines::Line;
 pub use refusal::Refusal;
-use sheet::says_few;
+use sheet::{Contents, says_few};
 
 // So many tracks, or items, at most work in a small store, which is cleared sooner.
 const FEW: usize = 64;
@@ -59,11 +66,11 @@ fn board_in<const TRACKS: usize, const ITEMS: usize, const HEADS: usize, const T
     let mut items = [[0u32; 7]; ITEMS];
     let mut heads = [0usize; HEADS];
     let mut nexts = [0usize; ITEMS];
-    let mut lines = [[0u32; 8]; TRACKS];
+    let mut lines = [Line::BLANK; TRACKS];
     let mut increases = [0u32; TRACKS];
     let mut gains = [0u32; TRACKS];
     let mut rests = [0u32; TRACKS];
-    let mut sums = [[0u64; 2]; TOTALS];
+    let mut sums = [Totals::NONE; TOTALS];
     let mut held = [false; TRACKS];
     board_with(
         bytes,
@@ -81,19 +88,18 @@ fn board_in<const TRACKS: usize, const ITEMS: usize, const HEADS: usize, const T
     )
 }
 
-// In the store that is lent, of which the layout gets as much as the sheet has tracks and items. It is lent slice by slice: a struct of
-// `&mut` would have to promise of each field that it is the same slice as before (batch.rt of `spans` says more).
+// Reads the sheet into the rows that are lent, and lays out what it says.
 fn board_with(
     bytes: &[u8],
     tracks: &mut [[u32; 4]],
     items: &mut [[u32; 7]],
     heads: &mut [usize],
     nexts: &mut [usize],
-    lines: &mut [[u32; 8]],
+    lines: &mut [Line],
     increases: &mut [u32],
     gains: &mut [u32],
     rests: &mut [u32],
-    sums: &mut [[u64; 2]],
+    sums: &mut [Totals],
     held: &mut [bool],
     sizes: &mut [[u32; 2]],
 ) -> Result<Board, Refusal>
@@ -101,11 +107,37 @@ fn board_with(
     ensures { (board_leaves result sizes.new ≡ board_call bytes.now sizes.old) × (own_answer result ≡ result) }
 {
     let contents = sheet::read(bytes, tracks, items)?;
+    let board = lay_out_first(
+        contents, tracks, items, heads, nexts, lines, increases, gains, rests, sums, held, sizes,
+    )?;
+    Ok(board)
+}
+
+// The first rows are the sheet's, and the layout gets as much of the store as they need. It is lent slice by slice: a struct of
+// `&mut` would have to promise of each field that it is the same slice as before (batch.rt of `spans` says more).
+fn lay_out_first(
+    contents: Contents,
+    tracks: &[[u32; 4]],
+    items: &[[u32; 7]],
+    heads: &mut [usize],
+    nexts: &mut [usize],
+    lines: &mut [Line],
+    increases: &mut [u32],
+    gains: &mut [u32],
+    rests: &mut [u32],
+    sums: &mut [Totals],
+    held: &mut [bool],
+    sizes: &mut [[u32; 2]],
+) -> Result<Board, layout::Refusal>
+    requires read { (contents.tracks ≤ most_tracks) × (contents.tracks ≤ length tracks.now) × (contents.items ≤ length items.now) }
+    requires store { sizing.Store tracks.now items.now heads.old nexts.old lines.old increases.old gains.old rests.old sums.old held.old }
+    ensures { layout_leaves result sizes.new ≡ layout_call contents.space (map sheet_track_of (take contents.tracks tracks.now)) (map item_of (take contents.items items.now)) sizes.old }
+{
     let n = contents.tracks;
     let m = contents.items;
     let batches = n + MORE_BATCHES;
     let totals = n + 1;
-    let board = lay_out(
+    lay_out(
         contents.space,
         &tracks[..n],
         &items[..m],
@@ -118,6 +150,5 @@ fn board_with(
         &mut sums[..totals],
         &mut held[..n],
         sizes,
-    )?;
-    Ok(board)
+    )
 }

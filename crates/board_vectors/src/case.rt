@@ -6,7 +6,7 @@ use crate::compare::is_given;
 use crate::told::read_told;
 use cases::{Stop, Text};
 
-// More than a sheet and its tracks can have, so that both can be too many.
+// More than a sheet and its tracks can have, so that both can be too many. The memory is fixed.
 const MOST_BYTES: usize = 24000;
 
 const MOST_PLACES: usize = 320;

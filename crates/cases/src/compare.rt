@@ -1,4 +1,5 @@
-// Whether two lists of rows are the same. Slices of numbers are compared by == where they stand, and rows by `same`.
+// Whether two lists of rows are the same. Slices of numbers are compared by == where they stand, and rows by `same`, which the edit `compares_nothing`
+// stands on.
 ghost use Rattle.std.specs.Prelude.{◌≡◌, IsTrue, ◌↔◌};
 
 pub fn same<const N: usize>(a: &[[u32; N]], b: &[[u32; N]]) -> bool

@@ -20,58 +20,64 @@ pub(crate) fn buffer() -> [u8; MOST_BYTES]
     [0; MOST_BYTES]
 }
 
-// A line on standard error, of three arguments that no struct holds, since it would be made for this line alone: the program, the file, whose name need not be text, and what is told of it.
-fn print_about(rt: &HostRuntime, program: &str, path: &[u8], words: &str) {
-    let _ = eprint!(rt; "{program}: ");
-    let _ = rt.stderr().write_all(path);
-    let _ = eprintln!(rt; ": {words}");
+// A file that is asked for: by which program, and by which name, which need not be text.
+#[derive(Clone, Copy)]
+struct Asked<'a> {
+    rt: &'a HostRuntime,
+    program: &'a str,
+    path: &'a [u8],
 }
 
-// Why a call on the file failed. Where there is no memory for the reason, the line says only that it did.
-fn print_failure(rt: &HostRuntime, program: &str, path: &[u8], error: Error) {
-    match input::reason(rt.alloc(), error) {
-        Ok(words) => print_about(rt, program, path, words.as_str()),
-        Err(_) => print_about(rt, program, path, "it cannot be read"),
+impl Asked<'_> {
+    // A line on standard error: the program, the file, and what is told of it.
+    fn tell(&self, words: &str) {
+        let rt = self.rt;
+        let program = self.program;
+        let _ = eprint!(rt; "{program}: ");
+        let _ = rt.stderr().write_all(self.path);
+        let _ = eprintln!(rt; ": {words}");
     }
-}
 
-// Bytes that are full may not be all of the file.
-fn read_file(
-    rt: &HostRuntime,
-    program: &str,
-    file: &mut File,
-    path: &[u8],
-    text: &mut [u8],
-) -> Option<usize>
-    ensures { IfSome result (λ length. IsPrefixLen length text.new) }
-{
-    let most = text.len();
-    let read = input::read_from(file, text);
-    let at = read.length;
-    match read.end {
-        End::Whole if at < most => return Some(at),
-        End::Failed(error) => print_failure(rt, program, path, error),
-        _ => {
-            let fault = Fault::TooLong;
-            print_stop(rt, program, Stop { at, fault });
+    // Why a call on the file failed. Where there is no memory for the reason, the line says only that it did.
+    fn tell_failure(&self, error: Error) {
+        match input::reason(self.rt.alloc(), error) {
+            Ok(words) => self.tell(words.as_str()),
+            Err(_) => self.tell("it cannot be read"),
         }
     }
-    None
-}
 
-// The system takes a name of any bytes, and std's calls one that is text.
-fn load_named(rt: &HostRuntime, program: &str, path: &[u8], text: &mut [u8]) -> Option<usize>
-    ensures { IfSome result (λ length. IsPrefixLen length text.new) }
-{
-    let Ok(name) = std::str::from_utf8(path) else {
-        print_about(rt, program, path, "the name is not UTF-8");
-        return None;
-    };
-    match File::open(rt, name) {
-        Ok(mut file) => read_file(rt, program, &mut file, path, text),
-        Err(error) => {
-            print_failure(rt, program, path, error);
-            None
+    // Bytes that are full may not be all of the file.
+    fn read(&self, file: &mut File, text: &mut [u8]) -> Option<usize>
+        ensures { IfSome result (λ length. IsPrefixLen length text.new) }
+    {
+        let most = text.len();
+        let read = input::read_from(file, text);
+        let at = read.length;
+        match read.end {
+            End::Whole if at < most => return Some(at),
+            End::Failed(error) => self.tell_failure(error),
+            _ => {
+                let fault = Fault::TooLong;
+                print_stop(self.rt, self.program, Stop { at, fault });
+            }
+        }
+        None
+    }
+
+    // The system takes a name of any bytes, and std's calls one that is text.
+    fn load(&self, text: &mut [u8]) -> Option<usize>
+        ensures { IfSome result (λ length. IsPrefixLen length text.new) }
+    {
+        let Ok(name) = std::str::from_utf8(self.path) else {
+            self.tell("the name is not UTF-8");
+            return None;
+        };
+        match File::open(self.rt, name) {
+            Ok(mut file) => self.read(&mut file, text),
+            Err(error) => {
+                self.tell_failure(error);
+                None
+            }
         }
     }
 }
@@ -85,5 +91,6 @@ pub fn load(rt: &HostRuntime, program: &str, text: &mut [u8]) -> Option<usize>
         let _ = eprintln!(rt; "{program}: a file name of at most 4096 bytes was expected");
         return None;
     };
-    load_named(rt, program, &path[..length], text)
+    let path = &path[..length];
+    Asked { rt, program, path }.load(text)
 }

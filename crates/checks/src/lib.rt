@@ -1,5 +1,5 @@
 // The records of a board at fault: refusals 7 to 10, on rows (specs/Rule.antt is the rule). The space is record 0, track t is 1 + t,
-// item i is 1 + tracks + i.
+// item i is 1 + tracks + i. Tracks and items are two slices, as C lends them.
 #![tactic(auto)]
 
 mod over;
@@ -18,6 +18,7 @@ use sheet_kinds::{SheetTrack, Space};
 use spanned::{is_measured, lacks_contribution};
 
 // The first of the checks to find a record at fault, by number; and of its records the lowest.
+#[tactic(auto, using(crate::proofs::CheckRow::row), unfolding(crate::specs::Rule::record_fault, crate::specs::Rule::first_of))]
 pub fn record_fault(space: Space, tracks: &[[u32; 4]], items: &[[u32; 7]]) -> Result<(), Refusal>
     ensures { fault_of result ≡ record_fault space (map sheet_track_of tracks.now) (map item_of items.now) }
 {

@@ -4,6 +4,7 @@ use Rattle.laws.specs.Lists.{keep}
 use Rattle.kinds.specs.Kinds.{Row, track_of, item_of}
 use Rattle.kinds.specs.declared.constraint.Constraint.{Constraint}
 use Rattle.lines.specs.declared.line.Line.{Line}
+use Rattle.letters.specs.declared.totals.Totals.{Totals}
 use Rattle.lines.specs.declared.measured.Measured.{Measured}
 use Rattle.lines.specs.Rule.{measured_items, in_one_track, start, singles, missing, content}
 use Rattle.lines.specs.Chains.{fr_batch, batches}
@@ -13,7 +14,7 @@ use Rattle.letters.specs.Batches.{batched_in}
 use Rattle.spans.specs.Work.{longer_lines}
 
 -- a head for each batch, a next beside each item; beside each track a line, no increase and scratch; and a total more than tracks
-pub record Store (tracks items : List Row) (heads nexts : List ℕ) (lines : List Row) (increases gains rests : List ℕ) (sums : List Row) : Type 0 where
+pub record Store (tracks items : List Row) (heads nexts : List ℕ) (lines : List Line) (increases gains rests : List ℕ) (sums : List Totals) : Type 0 where
   pub heads-long : length heads ≡ batches (length tracks)
   pub nexts-long : length nexts ≡ length items
   pub lines_long : length lines ≡ length tracks
@@ -27,7 +28,7 @@ abbrev pub prepared_lines : Constraint → (tracks items : List Row) → List Li
 prepared_lines c tracks items = singles c (keep (in_one_track (map track_of tracks)) (measured_items (map track_of tracks) (map item_of items))) (start (map track_of tracks))
 
 -- steps 3 and 4, from the batches by number
-abbrev pub spread_lines : Constraint → List (List Measured) → List Row → List Line
+abbrev pub spread_lines : Constraint → List (List Measured) → List Line → List Line
 spread_lines c bs lines = missing (batched_in Last c (get_or bs (fr_batch (length lines)) []) (longer_lines c bs lines))
 
 -- steps 1 to 4

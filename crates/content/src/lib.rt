@@ -7,7 +7,6 @@ ghost use Rattle.laws.specs.Lists.{All};
 ghost use Rattle.rounds.specs.Rule.{most_tracks};
 ghost use Rattle.kinds.specs.Kinds.{track_of, item_of};
 ghost use Rattle.spanned.specs.Sound.{TrackFits, Sound};
-ghost use Rattle.lines.specs.Rows.{lines_of};
 ghost use Rattle.lines.specs.Fits.{LinesFit};
 ghost use Rattle.chains.specs.Batches.{Gathered, Gatherable};
 ghost use Rattle.letters.specs.Increases.{NoIncrease};
@@ -17,8 +16,8 @@ ghost use Rattle.content.specs.Store.{Store, prepared_lines, spread_lines, conte
 
 use chains::{fr_batch, gather};
 use kinds::Constraint;
-use letters::{Batch, tally};
-use lines::{Batches, Chain, fill_missing, start};
+use letters::{Batch, Totals, tally};
+use lines::{Batches, Chain, Line, fill_missing, start};
 use spans::{batched, longer, singles};
 
 // Steps 1 and 2, the chains of the batches, and the totals of the lines.
@@ -28,17 +27,17 @@ fn prepare(
     items: &[[u32; 7]],
     heads: &mut [usize],
     nexts: &mut [usize],
-    lines: &mut [[u32; 8]],
-    sums: &mut [[u64; 2]],
+    lines: &mut [Line],
+    sums: &mut [Totals],
 )
     requires { Gatherable tracks.now items.now heads.old nexts.old
         × All TrackFits (map track_of tracks.now)
         × (length lines.old ≡ length tracks.now)
         × (length sums.old ≡ length tracks.now + 1) }
-    ensures { (lines_of lines.new ≡ prepared_lines constraint tracks.now items.now)
-        × LinesFit (lines_of lines.new)
+    ensures { (lines.new ≡ prepared_lines constraint tracks.now items.now)
+        × LinesFit lines.new
         × Gathered (map track_of tracks.now) items.now heads.new nexts.new
-        × (sums.new ≡ tallied (lines_of lines.new)) }
+        × (sums.new ≡ tallied lines.new) }
 {
     start(tracks, lines);
     gather(tracks, items, heads, nexts);
@@ -50,17 +49,17 @@ fn prepare(
 fn spread(
     constraint: Constraint,
     batches: &Batches<'_>,
-    lines: &mut [[u32; 8]],
+    lines: &mut [Line],
     increases: &mut [u32],
     gains: &mut [u32],
     rests: &mut [u32],
-    sums: &mut [[u64; 2]],
+    sums: &mut [Totals],
 )
     requires { Working lines.old increases.old gains.old rests.old sums.old
         × BatchesOn (length lines.old) batches.now
-        × Calm (lines_of lines.old) }
-    ensures { (lines_of lines.new ≡ spread_lines constraint batches.now lines.old)
-        × LinesFit (lines_of lines.new)
+        × Calm lines.old }
+    ensures { (lines.new ≡ spread_lines constraint batches.now lines.old)
+        × LinesFit lines.new
         × NoIncrease lines.old increases.new }
 {
     longer(constraint, batches, lines, increases, gains, rests, sums);
@@ -86,17 +85,17 @@ pub fn content(
     items: &[[u32; 7]],
     heads: &mut [usize],
     nexts: &mut [usize],
-    lines: &mut [[u32; 8]],
+    lines: &mut [Line],
     increases: &mut [u32],
     gains: &mut [u32],
     rests: &mut [u32],
-    sums: &mut [[u64; 2]],
+    sums: &mut [Totals],
 )
     requires { (length tracks.now ≤ most_tracks)
         × Sound (map track_of tracks.now) (map item_of items.now)
         × Store tracks.now items.now heads.old nexts.old lines.old increases.old gains.old rests.old sums.old }
-    ensures { (lines_of lines.new ≡ content_lines constraint tracks.now items.now)
-        × LinesFit (lines_of lines.new)
+    ensures { (lines.new ≡ content_lines constraint tracks.now items.now)
+        × LinesFit lines.new
         × Gathered (map track_of tracks.now) items.now heads.new nexts.new
         × NoIncrease lines.old increases.new }
 {

@@ -19,7 +19,8 @@ pub fn check(edges: &[u32]) -> Result<(), Refusal>
     Ok(())
 }
 
-// Whether an entry is below the one before it. It looks at all of them, with no branch, so that the compiler takes several at a time.
+// Whether an entry is below the one before it. It looks at all of them, with no branch, so that the compiler takes several at a time. By index, here and
+// below: over `windows` and `position` the proof of the other did not close.
 fn has_fall(edges: &[u32]) -> bool
     requires { 0 < length edges.now }
     ensures { result ≡ is_fault (behind_fault edges.now) }

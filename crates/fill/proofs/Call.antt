@@ -1,23 +1,16 @@
 -- The call, case by case as the code goes. Assumes nothing.
 use Rattle.std.proofs.Common.{◌≡◌, refl, ap, ap₂, Bool, true, false, List, [], ◌∷◌, Result, Ok, Err, ℕ, suc, ◌+◌, ◌≤◌, ◌<◌, arith, ltb, leb, eqb, length, get_or, lt-ltb, le-ltb, leb-true, eqb-true}
+use Rattle.std.proofs.lemmas.Result.{err_from_is_err_and}
 use Rattle.laws.specs.Tests.{both_true}
 use Rattle.fill.specs.Rule.{Track, track_of, tracks_of, most_tracks, most_dots, lists_fit, first_over, Outcome, outcome, filled, refused, filled_outcome, fill, fill_call}
 use Rattle.rounds.specs.Rests.{caps, state_of, fill_rests, lost}
-use Rattle.fill.specs.Answer.{number_of, place_of, told_by, ListsFit}
+use Rattle.fill.specs.Answer.{number_of, place_of, told_by}
 use Rattle.fill.specs.Tracks.{in_rule}
 use Rattle.fill.specs.declared.tracks.Tracks.{Tracks}
 use Rattle.fill.specs.declared.answer.Refusal.{Refusal}
 use Rattle.fill.specs.declared.answer.Refusal.TheVariants.{Lists, Dots, Room}
 use Rattle.fill.specs.declared.answer.Filled.{Filled}
 use Rattle.rounds.proofs.Tied.{fill-agrees}
-
-module _ (as' ls : List Bool) (rs gs : List ℕ) (fits : lists_fit (length as') (length ls) (length rs) (length gs) ≡ true) where
-  pub lists-fit : ListsFit as' ls rs gs
-  lists-fit =
-      let few = both_true (leb (length gs) most_tracks) _ fits in
-      let a = both_true (eqb (length as') (length gs)) _ few.1 in
-      let l = both_true (eqb (length ls) (length gs)) _ a.1 in
-      record { same = record { affected = eqb-true _ _ a.0; limited = eqb-true _ _ l.0; rooms = eqb-true _ _ l.1 }; few = leb-true _ _ few.0 }
 
 module _ (dots : ℕ) (as' ls : List Bool) (rs gs : List ℕ) where
   pub call-lists : lists_fit (length as') (length ls) (length rs) (length gs) ≡ false → outcome (refused 12 0) gs ≡ fill_call dots as' ls rs gs
@@ -84,3 +77,6 @@ pub call-unread : (dots : ℕ) (as' ls : List Bool) (rs ss gs : List ℕ) → le
     → fill_call dots as' ls rs gs ≡ fill_call dots as' ls ss gs
 unfolding fill_call
 call-unread dots as' ls rs ss gs e h = rw (e, tracks-unread as' ls rs ss e h)
+
+-- for the check of `fill`
+pub ruleset cases = (call-lists, call-dots, call-room, call-filled, lt-ltb, le-ltb, err_from_is_err_and)

@@ -1,6 +1,6 @@
 -- A turn and the end of each loop over a call's tracks. Assumes nothing.
 use Rattle.std.proofs.Common.{◌≡◌, refl, ap, ◌∙◌, List, [], ◌∷◌, Bool, true, false, cond, ℕ, suc, ◌+◌, ◌-◌, ◌≤◌, ◌<◌, length, drop, drop_of_length-le, arith}
-use Rattle.laws.specs.Walk.{next}
+use Rattle.laws.specs.Walk.{next, store_step, store-end}
 use Rattle.fill.specs.Rule as Rule
 use Rattle.fill.specs.Rule.{tracks_of, room_over, first_over}
 use Rattle.rounds.specs.Rests.{cap_of, caps, lost}
@@ -48,6 +48,8 @@ module _ (ts : Tracks) (i : ℕ) (h : length ts.rooms.now ≤ i) where
   unfolding caps
   no-cap dots = ap (caps dots) no-track
 
-  pub none-over : first_over (rest_from ts i) ≡ 0
-  unfolding first_over
-  none-over = ap first_over no-track
+-- for the check of `check_rooms`
+pub ruleset over = (over-here, over-behind)
+
+-- and of `to_gains`
+pub ruleset gains = (store_step, store-end, next-lost, no-cap)

@@ -20,6 +20,7 @@ use tracks::Tracks;
 
 // Hands out the dots. Where the call is refused the gains keep what they hold; else each is written, 0 for a track that
 // is not affected.
+#[tactic(auto, using(crate::proofs::Call::cases))]
 pub fn fill(
     dots: u32,
     affected: &[bool],

@@ -17,7 +17,8 @@ pub struct Tracks<'a> {
 }
 
 impl<'a> Tracks<'a> {
-    ghost use Rattle.fill.specs.Tracks.{in_rule, track_at, room_in};
+    ghost use Rattle.rounds.specs.Rooms.{room_in};
+    ghost use Rattle.fill.specs.Tracks.{in_rule, track_at};
 
     // The lists, unless they differ in length from the gains or are too long.
     pub fn of(
@@ -67,6 +68,7 @@ impl<'a> Tracks<'a> {
     }
 
     // Refuses the first track whose room is over the limit, affected or not. A `for`, and no `position`: it looks into two lists at one index.
+    #[tactic(auto, using(crate::proofs::Turns::over))]
     pub fn check_rooms(&self) -> Result<(), Refusal>
         ensures { MatchResult result
             (λ _. length self.now.rooms.now ≤ first_over (in_rule self.now))
@@ -91,6 +93,7 @@ impl<'a> Tracks<'a> {
     }
 
     // Each track's gain in place of what is left of its rest.
+    #[tactic(auto, using(crate::proofs::Turns::gains), unfolding(rounds::specs::Rests::lost))]
     pub fn to_gains(&self, dots: u32, rests: &mut [u32])
         requires { length rests.old ≡ length self.now.rooms.now }
         ensures { rests.new ≡ lost (caps dots (in_rule self.now)) rests.old }

@@ -4,7 +4,7 @@ ghost use Rattle.texts.specs.Reading.{Onward};
 use crate::compare::is_given;
 use cases::{Stop, Text, read_wanted};
 
-// More than the most tracks, so that lists that are too long for the fill can be tried.
+// More than the most tracks, so that lists that are too long for the fill can be tried. The memory is fixed.
 const MOST_ENTRIES: usize = 300;
 
 // The case whose dots are the next number.

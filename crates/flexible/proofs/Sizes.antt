@@ -4,17 +4,15 @@ use mathlib.Core.List.{List, [], ◌∷◌, map}
 use Prim.Native.Nat.{◌*◌, ◌≤◌}
 use native.Mathlib.Nat.{le_trans}
 use native.Mathlib.Omega.{arith}
-use lib.ListN.{length, length-map}
+use lib.ListN.{length}
 use Rattle.laws.specs.Lists.{All}
 use Rattle.laws.specs.Alls.{all_map}
 use Rattle.laws.specs.Sums.{sum}
-use Rattle.kinds.specs.Kinds.{Row}
 use Rattle.kinds.specs.declared.track.Maximum.{Maximum}
 use Rattle.kinds.specs.declared.track.Maximum.TheVariants as maximum
 use Rattle.spanned.specs.Sound.{most_of}
 use Rattle.lines.specs.declared.line.Line.{Line}
 use Rattle.lines.specs.Fr.{held_size, open_factor}
-use Rattle.lines.specs.Rows.{line_of, lines_of}
 use Rattle.lines.specs.Fits.{LineFits, LinesFit}
 use Rattle.flexible.specs.Flexes.{flex_at, flexes, FactorFits, StoreFits}
 
@@ -53,9 +51,9 @@ open-factors-le [] hs a = omega arith
 open-factors-le (l ∷ ls) [] a = omega arith
 open-factors-le (l ∷ ls) (h ∷ hs) a = omega (arith, open-factor-le l h a.0, open-factors-le ls hs a.1)
 
-module _ (rows : List Row) (held : List Bool) (s : StoreFits rows held) where
-  pub held-sizes-small : sum (map held_size (flexes (lines_of rows) held)) ≤ 16776960
-  held-sizes-small = omega (arith, held-sizes-le (lines_of rows) held s.fits, length-map rows line_of, s.few)
+module _ (lines : List Line) (held : List Bool) (s : StoreFits lines held) where
+  pub held-sizes-small : sum (map held_size (flexes lines held)) ≤ 16776960
+  held-sizes-small = omega (arith, held-sizes-le lines held s.fits, s.few)
 
-  pub open-factors-small : sum (map open_factor (flexes (lines_of rows) held)) ≤ 25600000
-  open-factors-small = omega (arith, open-factors-le (lines_of rows) held s.fits, length-map rows line_of, s.few)
+  pub open-factors-small : sum (map open_factor (flexes lines held)) ≤ 25600000
+  open-factors-small = omega (arith, open-factors-le lines held s.fits, s.few)

@@ -4,14 +4,12 @@ use mathlib.Core.Bool.{Bool, true, false}
 use mathlib.Core.List.{List, [], ◌∷◌, map}
 use Prim.Native.Nat.{ℕ, zero, suc, ◌≤◌}
 use native.Mathlib.Omega.{arith}
-use lib.ListN.{length, length-map}
+use lib.ListN.{length}
 use Rattle.laws.specs.Lists.{some}
-use Rattle.kinds.specs.Kinds.{Row}
 use Rattle.lines.specs.declared.line.Line.{Line}
 use Rattle.lines.specs.declared.fr.Fr.{Fr}
 use Rattle.lines.specs.Rule.{flex_of, search_over}
 use Rattle.lines.specs.Fr.{Flex, fr_now, short, hold, search}
-use Rattle.lines.specs.Rows.{lines_of}
 use Rattle.flexible.specs.Flexes.{flex_at, flexes, held_first, held_next}
 
 pub flexes-first : (ls : List Line) → flexes ls (held_first ls) ≡ map flex_of ls
@@ -50,12 +48,12 @@ module _ (space : ℕ) (ts : List Flex) (fr w : Fr) (e : fr ≡ fr_now space ts)
   search-out (suc n) h p = absurd (omega arith)
 
 -- the same of a store: its marks at the start, and after a walk
-module _ (space : ℕ) (rows : List Row) (held : List Bool) where
-  pub search-start : (left : ℕ) → left ≡ length rows → held ≡ held_first (lines_of rows) → search left space (flexes (lines_of rows) held) ≡ search_over space (lines_of rows)
+module _ (space : ℕ) (lines : List Line) (held : List Bool) where
+  pub search-start : (left : ℕ) → left ≡ length lines → held ≡ held_first lines → search left space (flexes lines held) ≡ search_over space lines
   unfolding search_over
-  search-start left l e = rw (l, e, flexes-first, length-map)
+  search-start left l e = rw (l, e, flexes-first)
 
-  pub search-again : (left next : ℕ) (more : Bool) (fr w : Fr) (marks : List Bool) → fr ≡ fr_now space (flexes (lines_of rows) held)
-      → more ≡ some (short fr) (flexes (lines_of rows) held) → marks ≡ held_next fr (lines_of rows) held → more ≡ true → left ≡ suc next
-      → search left space (flexes (lines_of rows) held) ≡ w → search next space (flexes (lines_of rows) marks) ≡ w
-  search-again left next more fr w marks e s m t h p = rw (m, flexes-next) (search-turn space (flexes (lines_of rows) held) fr w e next (sym s ∙ t) (rw h at p))
+  pub search-again : (left next : ℕ) (more : Bool) (fr w : Fr) (marks : List Bool) → fr ≡ fr_now space (flexes lines held)
+      → more ≡ some (short fr) (flexes lines held) → marks ≡ held_next fr lines held → more ≡ true → left ≡ suc next
+      → search left space (flexes lines held) ≡ w → search next space (flexes lines marks) ≡ w
+  search-again left next more fr w marks e s m t h p = rw (m, flexes-next) (search-turn space (flexes lines held) fr w e next (sym s ∙ t) (rw h at p))

@@ -3,7 +3,6 @@
 use Rattle.std.specs.Prelude.{ℕ, ◌*◌, ◌/◌, ◌≤◌, max, ◌≡◌, Bool, cond, not, ◌||◌, List, [], ◌∷◌, map, ltb, length}
 use Rattle.laws.specs.Lists.{in_turn}
 use Rattle.rounds.specs.Rule.{most_tracks, most_dots}
-use Rattle.kinds.specs.Kinds.{Row}
 use Rattle.kinds.specs.declared.constraint.Constraint.{Constraint}
 use Rattle.kinds.specs.declared.constraint.Constraint.TheVariants.{Definite, MinContent, MaxContent}
 use Rattle.spanned.specs.Rule.{most_factor, is_fr}
@@ -12,7 +11,6 @@ use Rattle.lines.specs.declared.measured.Measured.{Measured}
 use Rattle.lines.specs.declared.fr.Fr.{Fr}
 use Rattle.lines.specs.Rule.{number, bases, search_over, base_fr, bases_fr, item_fr}
 use Rattle.lines.specs.Fr.{no_fr, Flex, short}
-use Rattle.lines.specs.Rows.{lines_of}
 use Rattle.lines.specs.Fits.{LinesFit}
 
 -- ---- The search
@@ -65,10 +63,10 @@ flexed_base fr l = cond (is_fr l.track) (max l.base (number l * fr.dots / fr.per
 -- ---- What the code asks for
 
 -- the working store: a mark for each line, on a board that is not too long, and each number within its limit
-pub record StoreFits (rows : List Row) (held : List Bool) : Type 0 where
-  pub one-length : length held ≡ length rows
-  pub few : length rows ≤ most_tracks
-  pub fits : LinesFit (lines_of rows)
+pub record StoreFits (lines : List Line) (held : List Bool) : Type 0 where
+  pub one-length : length held ≡ length lines
+  pub few : length lines ≤ most_tracks
+  pub fits : LinesFit lines
 
 -- a fraction whose products with a factor fit
 pub record FrFits (fr : Fr) : Type 0 where

@@ -1,37 +1,32 @@
 // The growth of fr tracks, rounded down after the product.
 ghost use Rattle.std.specs.Prelude.{◌≡◌};
 ghost use Rattle.lines.specs.Rule.{flexed, expand};
-ghost use Rattle.lines.specs.Rows.{line_of, lines_of};
 ghost use Rattle.lines.specs.Fits.{LinesFit};
 ghost use Rattle.flexible.specs.Flexes.{FrFits, FactorFits};
 
-use crate::tracks;
-use lines::{Fr, Line, with_sizes};
+use lines::{Fr, Line};
+use spanned::is_fr;
 
 // Each fr track becomes the larger of base and factor times fr.
-pub fn expand(fr: Fr, lines: &mut [[u32; 8]])
+pub fn expand(fr: Fr, lines: &mut [Line])
     requires fr_fits { FrFits fr }
-    requires lines_fit { LinesFit (lines_of lines.old) }
-    ensures { lines_of lines.new ≡ expand fr (lines_of lines.old) }
+    requires lines_fit { LinesFit lines.old }
+    ensures { lines.new ≡ expand fr lines.old }
 {
-    for row in lines.iter_mut() {
-        *row = flexed(fr, *row);
+    for line in lines.iter_mut() {
+        *line = flexed(fr, *line);
     }
 }
 
-fn flexed(fr: Fr, row: [u32; 8]) -> [u32; 8]
+fn flexed(fr: Fr, line: Line) -> Line
     requires fr_fits { FrFits fr }
-    requires factor_fits { FactorFits (line_of row) }
-    ensures { line_of result ≡ flexed fr (line_of row) }
+    requires factor_fits { FactorFits line }
+    ensures { result ≡ flexed fr line }
 {
-    let line = Line::of_row(row);
-    let limit = line.limit;
-    let is_fr = tracks::row_is_fr(row);
-    let factor = tracks::maximum_number(row);
-    let dots = fr.dots as u64;
-    let per = fr.per as u64;
-    let share = factor as u64 * dots / per;
+    let share = line.number() as u64 * fr.dots as u64 / fr.per as u64;
     let grown = line.base.max(share as u32);
-    let base = if is_fr { grown } else { line.base };
-    with_sizes(row, base, limit, line.growable)
+    Line {
+        base: if is_fr(line.track) { grown } else { line.base },
+        ..line
+    }
 }

@@ -2,15 +2,15 @@
 ghost use Rattle.std.specs.Prelude.{◌≡◌, length};
 ghost use Rattle.lines.specs.Rule.{bases_fr, item_fr};
 ghost use Rattle.lines.specs.Fr.{larger_fr};
-ghost use Rattle.lines.specs.Rows.{line_of, lines_of};
 ghost use Rattle.lines.specs.Fits.{MeasuredFits, MeasuredFit};
 ghost use Rattle.flexible.specs.Flexes.{line_fr, batch_fr, StoreFits};
 
-use crate::{search, tracks};
+use crate::search;
 use kinds::ContributionKind;
-use lines::{Chain, Fr, Measured};
+use lines::{Chain, Fr, Line, Measured};
+use spanned::is_fr;
 
-// Compared crosswise.
+// Compared crosswise, and of equal ones the first, as the rule has it: no `Ord`, for which equal fractions would have to be the same.
 fn larger_fr(a: Fr, b: Fr) -> Fr
     ensures { result ≡ larger_fr a b }
 {
@@ -19,36 +19,36 @@ fn larger_fr(a: Fr, b: Fr) -> Fr
     if left < right { b } else { a }
 }
 
-// A line's base divided by the larger of its factor and 1, if that is more.
-fn line_fr(row: [u32; 8], fr: Fr) -> Fr
-    ensures { result ≡ line_fr (line_of row) fr }
+// Of an fr line, its base divided by the larger of its factor and 1, if that is more than the fr so far.
+fn line_fr(line: Line, fr: Fr) -> Fr
+    ensures { result ≡ line_fr line fr }
 {
-    let is_fr = tracks::row_is_fr(row);
-    let factor = tracks::maximum_number(row);
+    if !is_fr(line.track) {
+        return fr;
+    }
     let own = Fr {
-        dots: row[4],
-        per: factor.max(1000),
+        dots: line.base,
+        per: line.number().max(1000),
     };
-    let most = larger_fr(own, fr);
-    if is_fr { most } else { fr }
+    larger_fr(own, fr)
 }
 
 // The largest that a base asks for.
-pub fn bases_fr(lines: &[[u32; 8]]) -> Fr
-    ensures { result ≡ bases_fr (lines_of lines.now) }
+pub fn bases_fr(lines: &[Line]) -> Fr
+    ensures { result ≡ bases_fr lines.now }
 {
     let mut fr = Fr::NONE;
-    for row in lines {
-        fr = line_fr(*row, fr);
+    for line in lines {
+        fr = line_fr(*line, fr);
     }
     fr
 }
 
 // The search over the lines that an item spans, to its max-content contribution.
-fn item_fr(item: Measured, lines: &[[u32; 8]], held: &mut [bool], fr: Fr) -> Fr
+fn item_fr(item: Measured, lines: &[Line], held: &mut [bool], fr: Fr) -> Fr
     requires store_fits { StoreFits lines.now held.old }
     requires item_fits { MeasuredFits (length lines.now) item }
-    ensures { result ≡ item_fr (lines_of lines.now) item fr }
+    ensures { result ≡ item_fr lines.now item fr }
 {
     let a = item.start as usize;
     let e = a + item.span as usize;
@@ -58,10 +58,10 @@ fn item_fr(item: Measured, lines: &[[u32; 8]], held: &mut [bool], fr: Fr) -> Fr
 }
 
 // The largest that a base asks for, or an item of the batch.
-pub fn max_content_fr(batch: &Chain<'_>, lines: &[[u32; 8]], held: &mut [bool]) -> Fr
+pub fn max_content_fr(batch: &Chain<'_>, lines: &[Line], held: &mut [bool]) -> Fr
     requires store_fits { StoreFits lines.now held.old }
     requires batch_fits { MeasuredFit (length lines.now) batch.now }
-    ensures { result ≡ batch_fr batch.now (lines_of lines.now) }
+    ensures { result ≡ batch_fr batch.now lines.now }
 {
     let mut fr = bases_fr(lines);
     for item in batch.walk() {

@@ -3,16 +3,15 @@ ghost use Rattle.std.specs.Prelude.{◌≡◌, length};
 ghost use Rattle.laws.specs.Lists.{some};
 ghost use Rattle.lines.specs.Rule.{search_over};
 ghost use Rattle.lines.specs.Fr.{fr_now, short};
-ghost use Rattle.lines.specs.Rows.{line_of, lines_of};
 ghost use Rattle.flexible.specs.Flexes.{flex_at, flexes, held_first, held_next, StoreFits};
 
-use crate::tracks;
-use lines::Fr;
+use lines::{Fr, Line};
+use spanned::is_fr;
 
 // Restarts, no more of them than lines: each holds one line more.
-pub fn search_over(space: u32, lines: &[[u32; 8]], held: &mut [bool]) -> Fr
+pub fn search_over(space: u32, lines: &[Line], held: &mut [bool]) -> Fr
     requires { StoreFits lines.now held.old }
-    ensures { result ≡ search_over space (lines_of lines.now) }
+    ensures { result ≡ search_over space lines.now }
 {
     hold_first(lines, held);
     for _ in 0..lines.len() {
@@ -26,28 +25,29 @@ pub fn search_over(space: u32, lines: &[[u32; 8]], held: &mut [bool]) -> Fr
 }
 
 // All but the fr tracks are held from the start.
-fn hold_first(lines: &[[u32; 8]], held: &mut [bool])
+#[tactic(auto, unfolding(crate::specs::Flexes::held_first))]
+fn hold_first(lines: &[Line], held: &mut [bool])
     requires { length held.old ≡ length lines.now }
-    ensures { held.new ≡ held_first (lines_of lines.now) }
+    ensures { held.new ≡ held_first lines.now }
 {
     for (i, mark) in held.iter_mut().enumerate() {
-        *mark = !tracks::row_is_fr(lines[i]);
+        *mark = !is_fr(lines[i].track);
     }
 }
 
 // The fr of the present holds.
-fn fr_now(space: u32, lines: &[[u32; 8]], held: &[bool]) -> Fr
+fn fr_now(space: u32, lines: &[Line], held: &[bool]) -> Fr
     requires { StoreFits lines.now held.now }
-    ensures { result ≡ fr_now space (flexes (lines_of lines.now) held.now) }
+    ensures { result ≡ fr_now space (flexes lines.now held.now) }
 {
     let mut sizes: u32 = 0;
     let mut factors: u32 = 0;
+    // By index, here and below: over `zip` what a loop keeps true would be said of what is left of two iterators, and no more of two lists.
     for i in 0..lines.len() {
-        let row = lines[i];
+        let line = lines[i];
         let mark = held[i];
-        let factor = tracks::maximum_number(row);
-        sizes += if mark { row[4] } else { 0 };
-        factors += if mark { 0 } else { factor };
+        sizes += if mark { line.base } else { 0 };
+        factors += if mark { 0 } else { line.number() };
     }
     Fr {
         dots: space.saturating_sub(sizes),
@@ -56,12 +56,11 @@ fn fr_now(space: u32, lines: &[[u32; 8]], held: &[bool]) -> Fr
 }
 
 // A line that is not held, and whose factor times fr is below its base.
-fn is_short(fr: Fr, row: [u32; 8], held: bool) -> bool
-    ensures { result ≡ short fr (flex_at (line_of row) held) }
+fn is_short(fr: Fr, line: Line, held: bool) -> bool
+    ensures { result ≡ short fr (flex_at line held) }
 {
-    let factor = tracks::maximum_number(row);
-    let share = factor as u64 * fr.dots as u64;
-    let asked = row[4] as u64 * fr.per as u64;
+    let share = line.number() as u64 * fr.dots as u64;
+    let asked = line.base as u64 * fr.per as u64;
     if held {
         return false;
     }
@@ -69,10 +68,10 @@ fn is_short(fr: Fr, row: [u32; 8], held: bool) -> bool
 }
 
 // Holds every line that is short, and tells whether there was one.
-fn hold_short(fr: Fr, lines: &[[u32; 8]], held: &mut [bool]) -> bool
+fn hold_short(fr: Fr, lines: &[Line], held: &mut [bool]) -> bool
     requires { length held.old ≡ length lines.now }
-    ensures { (result ≡ some (short fr) (flexes (lines_of lines.now) held.old))
-        × (held.new ≡ held_next fr (lines_of lines.now) held.old) }
+    ensures { (result ≡ some (short fr) (flexes lines.now held.old))
+        × (held.new ≡ held_next fr lines.now held.old) }
 {
     let mut any = false;
     for (i, mark) in held.iter_mut().enumerate() {

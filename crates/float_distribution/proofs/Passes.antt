@@ -2,6 +2,7 @@
 use mathlib.Core.Path.{◌≡◌, refl}
 use mathlib.Core.Bool.{true, false}
 use Prim.Native.Nat.{ℕ, zero, suc}
+use Rattle.laws.specs.Turns.{turns-none, turns-round}
 use Rattle.float_distribution.specs.Distribution.{Lists, Left, stops, passes, one_pass, share_of}
 
 module _ (l : Lists) where
@@ -17,3 +18,9 @@ module _ (l : Lists) where
   pub passes_none : (m : ℕ) (s : Left) → m ≡ 0 → passes l m s ≡ s
   unfolding passes
   passes_none m s h = rw h
+
+-- for the check of `distribute_space_up_to_limits`
+pub ruleset by_pass = (stop-here, passes_none)
+
+-- and of `one_pass`
+pub ruleset by_turn = (turns-none, turns-round)

@@ -1,4 +1,4 @@
-// The lists of a distribution: each track's part in it.
+// The lists of a distribution: each track's part in it, apart as C lends them.
 ghost use Rattle.std.specs.Prelude.{◌≡◌, ◌<◌, length};
 ghost use Rattle.float_distribution.specs.Distribution.{lists, OneLength, part_at};
 

@@ -52,6 +52,7 @@ fn least_room(tracks: &[[f32; 5]], parts: &Parts) -> f32
 }
 
 // Each affected track takes its part of the share. The space that is left.
+#[tactic(auto, using(crate::proofs::Passes::by_turn))]
 fn one_pass(share: f32, space: f32, tracks: &mut [[f32; 5]], parts: &Parts) -> f32
     requires { count parts.now ≡ length tracks.old }
     ensures { left result tracks.new ≡ one_pass (in_lists parts.now) share (left space tracks.old) }
@@ -68,6 +69,7 @@ fn one_pass(share: f32, space: f32, tracks: &mut [[f32; 5]], parts: &Parts) -> f
 
 // Passes while more than the threshold is left and a track is open, one more than there are tracks at most. The space
 // that is left.
+#[tactic(auto, using(crate::proofs::Passes::by_pass))]
 pub fn distribute_space_up_to_limits(space: f32, tracks: &mut [[f32; 5]], parts: &Parts) -> f32
     requires { count parts.now ≡ length tracks.old }
     ensures { left result tracks.new ≡ passes (in_lists parts.now) (length tracks.old + 1) (left space tracks.old) }

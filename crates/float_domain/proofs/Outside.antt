@@ -84,6 +84,9 @@ pub is-refused : {T : Type 0} (r : Result T Refusal) (found : Refusal) → IsErr
 is-refused (Ok x) found h = absurd h
 is-refused (Err y) found h = ap Err h
 
+-- for the check of a look at a track
+pub ruleset in_order = (is-refused, track-in-order)
+
 -- The code walks numbers and has come to those from k on, of which the first ones are looked at now: it finds a refusal in them, or none.
 module _ (k : ℕ) {all : List Number} (front rest : List Number) (parted : all ≡ front ++ rest) {whole : Fault} (walk : outside_from k all ≡ whole) where
   front-first : first (outside_from k front) (outside_from (k + length front) rest) ≡ whole

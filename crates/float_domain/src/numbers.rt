@@ -31,7 +31,7 @@ pub fn slice_fault(from: usize, kind: Kind, xs: &[f32]) -> Result<(), Refusal>
 }
 
 // A track record's five numbers, as listed. Of a row by value it is known that they are f32, which nothing else tells of a lent one.
-#[tactic(auto, using(crate::proofs::F32::f32_of_elements))]
+#[tactic(auto, using(crate::proofs::F32::f32_of_elements, crate::proofs::Outside::in_order))]
 pub fn track_fault(from: usize, row: [f32; 5]) -> Result<(), Refusal>
     requires { from < room_for_track }
     ensures fault { fault_of result ≡ outside_from from (track_numbers row) }

@@ -6,6 +6,7 @@ use Prim.Native.Nat.{ℕ, zero, suc, ◌<◌}
 use native.Mathlib.Nat.{not-suc-le-zero}
 use lib.Ieee as Ieee
 use lib.Ieee.{Float, binary32}
+use Rattle.laws.specs.Turns.{turns-none, turns_next}
 use Rattle.float_laws.specs.Numbers.{one32}
 use Rattle.float_laws.specs.Std.{max_of}
 use Rattle.float_fr_size.specs.declared.Sums.{Sums}
@@ -32,3 +33,9 @@ module _ (rows : List (List Float)) (fs : List Bool) (xs : List Float) (space : 
       → all_hold rows fs xs fr previous ≡ false → fr_passes rows fs xs space less fr ≡ fr_passes rows fs xs space left previous
   unfolding fr_passes
   passes-next left less previous fr one_more next shrunk = let told = rw next at shrunk in rw (one_more, next) (rw (told, fr_passes))
+
+-- for the check of `find_size_of_fr`
+pub ruleset by_pass = (next-by-sums, passes_none, passes-held, passes-next)
+
+-- and of `sums_of`
+pub ruleset by_turn = (turns-none, turns_next)

@@ -15,7 +15,7 @@ pub(crate) struct Flex {
     base: f32,
 }
 
-// The tracks of a search: whether each is flexible, and its factor.
+// The tracks of a search: whether each is flexible, and its factor, apart as C lends them.
 #[derive(Clone, Copy)]
 pub struct Flexes<'a> {
     tracks: &'a [[f32; 5]],
@@ -87,6 +87,7 @@ impl<'a> Flexes<'a> {
         }
     }
 
+    #[tactic(auto, using(crate::proofs::Passes::by_turn))]
     fn sums_of(&self, fr: f32) -> Sums
         ensures { result ≡ over sums_of self.now fr }
     {
@@ -94,6 +95,7 @@ impl<'a> Flexes<'a> {
             used: 0.0,
             factors: 0.0,
         };
+        // By index, since a flex is made of three lists at a place.
         for i in 0..self.tracks.len() {
             sums = self.flex(i).add_to(fr, sums);
         }
@@ -113,6 +115,7 @@ impl<'a> Flexes<'a> {
     }
 
     // Passes until the size holds for every track, one more than there are tracks at most.
+    #[tactic(auto, using(crate::proofs::Passes::by_pass))]
     pub fn find_size_of_fr(&self, space: f32) -> f32
         ensures { result ≡ over fr_size self.now space }
     {

@@ -1,3 +1,1 @@
 pub mod Known
-pub mod Weights
-pub mod Adjusted

@@ -28,6 +28,7 @@ fn with_increase(row: [f32; 5]) -> [f32; 5]
     track.row()
 }
 
+// By index into the tracks, here and below: over `zip` what a loop keeps true would be said of what is left of two iterators.
 fn load_sizes(tracks: &[[f32; 5]], sizes: &mut [f32])
     requires { length sizes.old ≡ length tracks.now }
     ensures { sizes.new ≡ map base_size tracks.now }

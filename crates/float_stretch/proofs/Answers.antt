@@ -6,6 +6,8 @@ use Prim.Native.Nat.{ℕ, ◌≤◌, ◌<◌}
 use lib.Ieee as Ieee
 use lib.Ieee.{Float}
 use borrow.Author.Tests.{lt-ltb, le-ltb}
+use Rattle.laws.specs.Walk.{store_step, store-end}
+use Rattle.laws.specs.Zips.{zip-next, zip-nil-right}
 use Rattle.laws.specs.Marks.{number}
 use Rattle.float_laws.specs.Numbers.{zero32}
 use Rattle.float_track.specs.declared.space.AvailableSpace.{AvailableSpace}
@@ -25,3 +27,6 @@ module _ (minimum : Option Float) (space : AvailableSpace) (autos : List Bool) (
     pub stretched-shared : (out : List (List Float)) → Ieee.lt zero32 free ≡ true → out ≡ grown_by (extra_of free count) autos rows
         → out ≡ stretched minimum space autos rows
     stretched-shared out above e = rw (sym counted, lt-ltb 0 count some, sym sum, sym left, above) e
+
+-- for the check of `grow_by`
+pub ruleset by_turn = (store_step, store-end, zip-next, zip-nil-right)

@@ -9,6 +9,7 @@ ghost use Rattle.float_stretch.specs.Stretch.{StretchLengths, stretched_row, gro
 
 use float_track::{AvailableSpace, Track, used_space};
 
+// A `for`: over `filter` and `count` the proof did not close.
 fn auto_count(autos: &[bool]) -> usize
     requires { length autos.now ≤ most_tracks }
     ensures { result ≡ number autos.now }
@@ -31,6 +32,8 @@ fn stretched_row(auto: bool, row: [f32; 5], extra: f32) -> [f32; 5]
     row
 }
 
+// By index: over `zip` what the loop keeps true would be said of what is left of two iterators.
+#[tactic(auto, using(crate::proofs::Answers::by_turn))]
 fn grow_by(tracks: &mut [[f32; 5]], autos: &[bool], extra: f32)
     requires { length autos.now ≡ length tracks.old }
     ensures { tracks.new ≡ grown_by extra autos.now tracks.old }

@@ -1,4 +1,5 @@
-// Available space, and the free space that it leaves. This is the Rust's own type, over f32; beside it stands `Constraint` of the crate kinds, over u32.
+// Available space, and the free space that it leaves. This is the Rust's own type, over f32, which the promises of the six routines name; `Constraint` of the crate kinds, over u32, is
+// the board's.
 ghost use Rattle.std.specs.Prelude.{◌≡◌};
 ghost use Rattle.float_track.specs.Space.{free_space, stretch_space};
 

@@ -16,6 +16,8 @@ pub struct Told {
     pub mark: bool,
 }
 
+// One match for each sort of answer, here and in the other programs of cases: one for all would be handed the test of what is Ok, and its contract would
+// say this match once more.
 pub fn is_number(told: Told, answer: Result<f32, Refusal>) -> bool
     ensures { result ≡ true → told_bits (number_told answer) ≡ told_as told.wanted (number (bits_of told.result)) }
 {

@@ -13,7 +13,7 @@ use crate::rows::read_row;
 use cases::{Stop, Text, read_wanted};
 use floats::Track;
 
-// More than the most tracks, so that lists that are too long for the routines can be tried.
+// More than the most tracks, so that lists that are too long for the routines can be tried. The memory is fixed.
 const MOST_ENTRIES: usize = 300;
 
 // The number of each routine; 0 and 1 are the flushes. They are numbers since the files of cases hold such, and `Text::call` has bounded

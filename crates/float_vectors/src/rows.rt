@@ -6,7 +6,7 @@ ghost use Rattle.float_vectors.specs.Wanted.{row_bits, rows_bits};
 use crate::numbers::{bits, read_float};
 use cases::{Stop, Text};
 
-// A track is five floats.
+// A track is five floats. `Text::row` reads numbers alone: handed the reading of an entry it would ask of that what `Text::list` asks.
 pub fn read_row(text: &mut Text) -> Result<[f32; 5], Stop>
     ensures { Onward text.old result text.new }
 {
@@ -29,6 +29,7 @@ pub fn same_row(a: [f32; 5], b: [f32; 5]) -> bool
     bits_of_row(a) == bits_of_row(b)
 }
 
+// By index, for each row's bits: `==` on floats is another question.
 pub fn same_rows(a: &[[f32; 5]], b: &[[f32; 5]]) -> bool
     ensures { result ≡ true → rows_bits a.now ≡ rows_bits b.now }
 {

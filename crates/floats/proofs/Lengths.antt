@@ -7,18 +7,13 @@ use Prim.Native.Nat.{ℕ, zero, suc, ◌≤◌}
 use native.Mathlib.Omega.{arith}
 use lib.ListN.{length}
 use lib.Ieee.{Float}
-use Rattle.laws.specs.Faults.{fine, fault, first, unless, fine-both, fine-test}
-use Rattle.float_domain.specs.declared.kind.Kind.TheVariants.{Size}
-use Rattle.float_domain.specs.Domain.{lengths_fit, lengths_fault, numbers_of, outside_from}
+use Rattle.float_domain.specs.Domain.{lengths_fit}
 use Rattle.float_domain.proofs.Outside.{lengths-fit-head, lengths-fit-le}
-use Rattle.std.specs.Prelude.{Option}
 use Rattle.float_distribution.specs.Distribution.{OneLength}
 use Rattle.float_fr_size.specs.Fr.{FrLengths}
-use Rattle.float_gutters.specs.Gutters.{GutterCount}
 use Rattle.float_maximise.specs.Maximise.{MaximiseLengths}
 use Rattle.float_stretch.specs.Stretch.{StretchLengths}
-use Rattle.floats.proofs.Fine.{lengths-of-fine}
-use Rattle.floats.specs.Rule.{size_number, is_gutter_count, gutter_fault}
+use Rattle.floats.specs.Rule.{is_gutter_count}
 
 pub one-length : (fs : List Bool) (ps ss ls : List Float) (n : ℕ) → lengths_fit n (length fs ∷ length ps ∷ length ss ∷ length ls ∷ []) ≡ true → OneLength fs ps ss ls n
 one-length fs ps ss ls n fit =
@@ -47,13 +42,3 @@ counted zero h = inl (omega arith)
 counted (suc zero) h = inl (omega arith)
 counted (suc (suc zero)) h = absurd (true≢false (sym h))
 counted (suc (suc (suc n))) h = inr (omega arith)
-
-pub gutter-count : (inner : Option Float) (known : List Bool) (estimates : List Float) → gutter_fault inner known estimates ≡ fine → GutterCount (length known)
-gutter-count inner known estimates h =
-    let rest = outside_from 0 (size_number inner ∷ numbers_of Size estimates) in
-    let count = unless (is_gutter_count (length known)) (fault 14 0) in
-    let lengths = lengths_fault (length known) (length estimates ∷ []) in
-    record {
-      enough = counted (length known) (fine-test (is_gutter_count (length known)) 14 0 (fine-both count rest (fine-both lengths (first count rest) h).1).0);
-      few = lengths-fit-le (length known) (length estimates ∷ []) (lengths-of-fine (length known) (length estimates ∷ []) (first count rest) h);
-    }

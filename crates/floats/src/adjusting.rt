@@ -12,6 +12,7 @@ use float_domain::{Kind, Refusal, lengths_fault, number_fault, slice_fault};
 use float_gutters::AlignContent;
 
 // A size that may be absent; where it is, there is no float to test.
+#[tactic(auto, unfolding(float_domain::specs::Domain::outside_from))]
 pub(crate) fn size_fault(index: usize, size: Option<f32>) -> Result<(), Refusal>
     ensures { fault_of result ≡ outside_from index (size_number size ∷ []) }
 {
@@ -29,6 +30,7 @@ fn is_gutter_count(count: usize) -> bool
 }
 
 // What refuses the call. Where nothing does, its numbers are known to be f32 in their domains.
+#[tactic(auto, using(crate::proofs::Order::in_order))]
 fn gutter_fault(inner: Option<f32>, known: &[bool], estimates: &[f32]) -> Result<(), Refusal>
     ensures fault { fault_of result ≡ gutter_fault inner known.now estimates.now }
     ensures inputs { OnOk result (GutterInputs inner known.now estimates.now) }
@@ -42,6 +44,7 @@ fn gutter_fault(inner: Option<f32>, known: &[bool], estimates: &[f32]) -> Result
     Ok(())
 }
 
+#[tactic(auto, using(crate::proofs::Calls::as_rust))]
 pub fn compute_alignment_gutter_adjustment(
     alignment: AlignContent,
     inner: Option<f32>,

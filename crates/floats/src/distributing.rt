@@ -11,6 +11,7 @@ use float_distribution::Parts;
 use float_domain::{Kind, Refusal, lengths_fault, number_fault, slice_fault, tracks_fault};
 
 // What refuses the call. Where nothing does, its numbers are known to be f32 in their domains.
+#[tactic(auto, using(crate::proofs::Order::in_order))]
 fn distribution_fault(
     space: f32,
     tracks: &[[f32; 5]],
@@ -36,6 +37,7 @@ fn distribution_fault(
 }
 
 // The space that is left. The tracks' incurred increases grow.
+#[tactic(auto, using(crate::proofs::Calls::as_rust))]
 pub fn distribute_space_up_to_limits(
     space: f32,
     tracks: &mut [[f32; 5]],

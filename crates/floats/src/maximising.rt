@@ -12,6 +12,7 @@ use float_domain::{Kind, Refusal, lengths_fault, number_fault, slice_fault, trac
 use float_track::AvailableSpace;
 
 // A space that is not definite has no float to test.
+#[tactic(auto, unfolding(float_domain::specs::Domain::outside_from))]
 pub(crate) fn space_fault(index: usize, space: AvailableSpace) -> Result<(), Refusal>
     ensures { fault_of result ≡ outside_from index (space_number space ∷ []) }
 {
@@ -22,6 +23,7 @@ pub(crate) fn space_fault(index: usize, space: AvailableSpace) -> Result<(), Ref
 }
 
 // What refuses the call. Where nothing does, its numbers are known to be f32 in their domains.
+#[tactic(auto, using(crate::proofs::Order::in_order))]
 fn maximise_fault(tracks: &[[f32; 5]], fits: &[f32], space: AvailableSpace) -> Result<(), Refusal>
     ensures fault { fault_of result ≡ maximise_fault tracks.now fits.now space }
     ensures inputs { OnOk result (MaximiseInputs tracks.now fits.now) }
@@ -35,6 +37,7 @@ fn maximise_fault(tracks: &[[f32; 5]], fits: &[f32], space: AvailableSpace) -> R
 }
 
 // The base sizes grow. A track without a fit-content limit has +infinity for it.
+#[tactic(auto, using(crate::proofs::Calls::as_rust))]
 pub fn maximise_tracks(
     tracks: &mut [[f32; 5]],
     fits: &[f32],

@@ -11,6 +11,7 @@ use float_domain::{Kind, Refusal, lengths_fault, number_fault, slice_fault, trac
 use float_fr_size::Flexes;
 
 // What refuses the call. Where nothing does, its numbers are known to be f32 in their domains.
+#[tactic(auto, using(crate::proofs::Order::in_order))]
 fn fr_fault(
     tracks: &[[f32; 5]],
     flexible: &[bool],
@@ -28,6 +29,7 @@ fn fr_fault(
     Ok(())
 }
 
+#[tactic(auto, using(crate::proofs::Calls::as_rust))]
 pub fn find_size_of_fr(
     tracks: &[[f32; 5]],
     flexible: &[bool],

@@ -12,6 +12,7 @@ use float_domain::{Refusal, lengths_fault, tracks_fault};
 use float_track::AvailableSpace;
 
 // What refuses the call. Where nothing does, its numbers are known to be f32 in their domains.
+#[tactic(auto, using(crate::proofs::Order::in_order))]
 fn stretch_fault(
     tracks: &[[f32; 5]],
     autos: &[bool],

@@ -10,7 +10,7 @@ ghost use Rattle.input.specs.declared.End.{End};
 pub use reasons::reason;
 use std::io;
 
-// How reading ended.
+// How reading ended. No Result: the bytes before a failure count too, so that each end goes with a length.
 #[derive(Clone, Copy)]
 pub enum End {
     // The input ended, or the lent bytes did.

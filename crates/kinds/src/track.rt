@@ -21,7 +21,7 @@ pub enum Maximum {
 }
 
 impl Minimum {
-    // The tags of a sheet.
+    // The tags of a sheet, which its bytes have: numbers, as `docs/PROMISES.md` has them.
     pub const FIXED: u32 = 1;
 
     pub const AUTO: u32 = 2;
@@ -84,7 +84,7 @@ impl Track {
     // The largest flex factor, in thousandths.
     pub const MOST_FACTOR: u32 = 100_000;
 
-    // The track that a row says; one without fault says no other.
+    // The track that a row says; one without fault says no other. `of_row`, and no `From`: `docs/PROMISES.md` names it.
     pub fn of_row(row: [u32; 4]) -> Track
         ensures { result ≡ track_of row }
     {

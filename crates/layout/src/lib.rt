@@ -13,6 +13,9 @@ ghost use Rattle.layout.specs.Rule.{layout_call};
 ghost use Rattle.layout.specs.Answer.{layout_leaves};
 
 use checks::record_fault;
+// What a store is made of, beside numbers and marks.
+pub use letters::Totals;
+pub use lines::Line;
 pub use refusal::Refusal;
 use sheet_kinds::Space;
 use sizing::size;
@@ -35,11 +38,11 @@ pub fn lay_out(
     items: &[[u32; 7]],
     heads: &mut [usize],
     nexts: &mut [usize],
-    lines: &mut [[u32; 8]],
+    lines: &mut [Line],
     increases: &mut [u32],
     gains: &mut [u32],
     rests: &mut [u32],
-    sums: &mut [[u64; 2]],
+    sums: &mut [Totals],
     held: &mut [bool],
     sizes: &mut [[u32; 2]],
 ) -> Result<Board, Refusal>

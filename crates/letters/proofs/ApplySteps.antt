@@ -4,9 +4,7 @@ use mathlib.Core.List.{List, [], ◌∷◌, zip_with}
 use Prim.Native.Nat.{ℕ, ◌+◌, ◌≤◌, ◌<◌}
 use lib.ListN.{length, get_or, drop}
 use Rattle.laws.specs.Walk.{next}
-use Rattle.kinds.specs.Kinds.{Row}
 use Rattle.lines.specs.declared.line.Line.{Line}
-use Rattle.lines.specs.Rows.{line_of}
 use Rattle.letters.specs.Letters.{most}
 
 pub grown-step : (grown : Line → ℕ → Line) (l v : Line) (increases : List ℕ) (i : ℕ) (ls : List Line) → i < length increases → v ≡ grown l (get_or increases i 0)
@@ -19,6 +17,6 @@ unfolding zip_with
 grown-nil grown increases = refl
 
 -- what fits before the walk fits when it is met
-pub present-same : (present : Line → ℕ) (row row₀ : Row) (increase increase₀ : ℕ) → row ≡ row₀ → increase ≡ increase₀
-    → present (line_of row₀) + increase₀ ≤ most → present (line_of row) + increase ≤ most
-present-same present row row₀ increase increase₀ r n h = rw (r, n) h
+pub present-same : (present : Line → ℕ) (line line₀ : Line) (increase increase₀ : ℕ) → line ≡ line₀ → increase ≡ increase₀
+    → present line₀ + increase₀ ≤ most → present line + increase ≤ most
+present-same present line line₀ increase increase₀ r n h = rw (r, n) h

@@ -1,14 +1,11 @@
 -- The share by factor as the code makes it: the factors that it loads, the quotas with the factors on top, and what is taken off again. Assumes
 -- nothing.
 use mathlib.Core.Path.{◌≡◌, refl, sym, ap, ap₂, ◌∙◌}
-use mathlib.Core.Bool.{Bool, true, false, cond, ◌&&◌}
+use mathlib.Core.Bool.{Bool, true, false, ◌&&◌}
 use mathlib.Core.List.{List, [], ◌∷◌, map, zip_with}
 use Prim.Native.Nat.{ℕ, zero, suc, ◌+◌, ◌-◌, ◌≤◌, ◌<◌, zero-le}
-use native.Mathlib.Nat.{mul_comm, mul-le-mul_left, div-le_of_le-mul}
 use native.Mathlib.Omega.{arith}
-use lib.Dec.{eqb}
 use lib.ListN.{length, get_or, drop, set, replicate, length-map, drop_of_length-le}
-use Rattle.laws.specs.Tests.{both_true, never}
 use Rattle.laws.specs.Sums.{sum, get_or-le-sum}
 use Rattle.laws.specs.Marks.{bit}
 use Rattle.laws.specs.Walk.{next}
@@ -17,7 +14,7 @@ use Rattle.rounds.specs.Rule.{gains_of, fill, odd_takers}
 use Rattle.rounds.specs.Rule as fill
 use Rattle.rounds.specs.Rests.{open_marks, take_marked, take_odd, lost}
 use Rattle.rounds.proofs.OpenMarks.{Among, none, one, odd-among}
-use Rattle.kinds.specs.Kinds.{Row, maximum_number}
+use Rattle.kinds.specs.Kinds.{maximum_number}
 use Rattle.kinds.specs.declared.track.Maximum.{Maximum}
 use Rattle.kinds.specs.declared.track.Maximum.TheVariants as maximum
 use Rattle.spanned.specs.Rule.{is_fr_maximum, most_factor}
@@ -26,7 +23,6 @@ use Rattle.lines.specs.declared.line.Line.{Line}
 use Rattle.lines.specs.ByFactor.{counted, those_factors, quota, quotas, dots_over, has_factor, with_odd, by_factors, unlimited, plainly}
 use Rattle.lines.specs.Rule.{number, more_gains, affects_fr, shares_by_factor}
 use Rattle.lines.specs.Rule as rule
-use Rattle.lines.specs.Rows.{line_of}
 use Rattle.lines.specs.Fits.{LinesFit}
 use Rattle.lines.proofs.ByFactor.{length-plainly, share-plain, share-weighed, shares-by-factor-add}
 use Rattle.letters.specs.declared.letter.Letter.{Letter}
@@ -34,35 +30,9 @@ use Rattle.letters.specs.declared.share.Share.TheVariants.{Plain}
 use Rattle.letters.specs.Letters.{letter_of}
 use Rattle.letters.specs.Shares.{share_tracks, GainsFit}
 use Rattle.letters.specs.Factors.{line_factor, FactorsFit}
-use Rattle.letters.proofs.Steps.{lines_from, lines_next, lines_end}
 use Rattle.letters.specs.declared.batch.Batch.TheVariants.{Last}
 use Rattle.letters.proofs.Shared.{zeros-more, tracks-of-zeros}
 use Rattle.letters.proofs.Keeps.{length-shares-in}
-
--- ---- a factor that counts
-
--- a maximum by what its tag is
-abbrev maximum_by : ℕ → (fixed auto least most fit : Bool) → Maximum
-maximum_by n fixed auto least most fit =
-    cond fixed (maximum.Fixed n) (cond auto maximum.Auto (cond least maximum.MinContent (cond most maximum.MaxContent (cond fit (maximum.FitContent n) (maximum.Fr n)))))
-
--- the factor of an fr track is the number in its row
-number-of-fr : (n : ℕ) (fixed auto least most fit : Bool) → is_fr_maximum (maximum_by n fixed auto least most fit) ≡ true → n ≡ maximum_number (maximum_by n fixed auto least most fit)
-number-of-fr n true auto least most fit e = refl
-number-of-fr n false true least most fit e = never e refl
-number-of-fr n false false true most fit e = never e refl
-number-of-fr n false false false true fit e = never e refl
-number-of-fr n false false false false true e = refl
-number-of-fr n false false false false false e = refl
-
-pub row-factor : (letter : Letter) (row : Row) → affects_fr (letter_of letter) (line_of row) ≡ true → get_or row 3 0 ≡ line_factor letter (line_of row)
-row-factor letter row e =
-    number-of-fr (get_or row 3 0) (eqb (get_or row 2 0) 1) (eqb (get_or row 2 0) 2) (eqb (get_or row 2 0) 3) (eqb (get_or row 2 0) 4) (eqb (get_or row 2 0) 5)
-    (both_true ((letter_of letter).affected (line_of row)) (is_fr_maximum (line_of row).track.maximum) e).1
-    ∙ ap (λ (b : Bool). counted b (number (line_of row))) (sym e)
-
-pub no-factor : (letter : Letter) (l : Line) → affects_fr (letter_of letter) l ≡ false → 0 ≡ line_factor letter l
-no-factor letter l e = ap (λ (b : Bool). counted b (number l)) (sym e)
 
 -- the factors of lines within their limits are within theirs
 factor-le : (affected : Bool) (m : Maximum) → maximum_number m ≤ most_of m → counted (affected && is_fr_maximum m) (maximum_number m) ≤ most_factor
@@ -95,21 +65,17 @@ those-of-lines letter (l ∷ ls) = ap (line_factor letter l ∷◌) (those-of-li
 
 -- ---- the factors from the place i on
 
-module _ (letter : Letter) (rows : List Row) where
+module _ (letter : Letter) (lines : List Line) where
   abbrev pub factors_from : ℕ → List ℕ
-  factors_from i = map (line_factor letter) (lines_from rows i)
+  factors_from i = map (line_factor letter) (drop i lines)
 
-  pub factors-step : (i v : ℕ) → i < length rows → v ≡ line_factor letter (line_of (get_or rows i [])) → factors_from i ≡ v ∷ factors_from (i + 1)
-  factors-step i v h e = rw (lines_next rows i h, e) refl
+  pub factors-step : (i : ℕ) (d : Line) (v : ℕ) → i < length lines → v ≡ line_factor letter (get_or lines i d) → factors_from i ≡ v ∷ factors_from (i + 1)
+  factors-step i d v h e = rw (next lines i d h, e) refl
 
-  pub factors-end : (i : ℕ) → length rows ≤ i → factors_from i ≡ []
-  factors-end i h = rw (lines_end rows i h) refl
+  pub factors-end : (i : ℕ) → length lines ≤ i → factors_from i ≡ []
+  factors-end i h = rw (drop_of_length-le lines h) refl
 
 -- ---- quotas
-
--- no quota is more than the dots
-pub quota-le : (dots total factor : ℕ) → factor ≤ total → quota dots total factor ≤ dots
-quota-le dots total factor h = div-le_of_le-mul total (rw (mul_comm total dots) (mul-le-mul_left dots h))
 
 module _ (dots : ℕ) (fs : List ℕ) where
   -- from the place i on, with the factors on top

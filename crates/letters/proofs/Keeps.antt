@@ -15,7 +15,6 @@ use Rattle.laws.specs.Sums.{sum, get_or-le-sum}
 use Rattle.rounds.specs.Rule.{gains_of, fill}
 use Rattle.rounds.proofs.Tied.{Fresh}
 use Rattle.rounds.proofs.Fresh.{gain-add-left-le, length-gains}
-use Rattle.kinds.specs.Kinds.{Row}
 use Rattle.kinds.specs.declared.constraint.Constraint.{Constraint}
 use Rattle.kinds.specs.declared.item.ContributionKind.TheVariants as kind
 use Rattle.spanned.specs.Rule.{most_size, most_contribution}
@@ -24,7 +23,7 @@ use Rattle.lines.specs.declared.line.Line.{Line}
 use Rattle.lines.specs.declared.measured.Measured.{Measured}
 use Rattle.lines.specs.Rule.{Limit, contribution_at, number, or_base, limit_plus, first_track, rest_track, shares, affects_fr, shares_by_factor, extra_of, gains_by, increased_by, increases, raise, spanned}
 use Rattle.lines.specs.Rule as rule
-use Rattle.lines.specs.Rows.{limit_number, line_of, lines_of}
+use Rattle.kinds.specs.Kinds.{amount_number}
 use Rattle.lines.specs.Fits.{LineFits, LinesFit, MeasuredFits, MeasuredFit}
 use Rattle.lines.proofs.ByFactor.{share-le, length-share}
 use Rattle.lines.proofs.Increases.{get_or-zeros, larger-from-le, spanned-at}
@@ -161,19 +160,17 @@ module _ (kind : Batch) (letter : Letter) (c : Constraint) (ls : List Line) (d :
       let q = in-turn-fits n batch (replicate (length ls) 0) k fb z in
       omega arith
 
--- as `apply` asks it, of rows
-pub increases-fit-rows : (kind : Batch) (letter : Letter) (c : Constraint) (n : ℕ) (batch : List Measured) (rows : List Row) → LinesFit (lines_of rows) → MeasuredFit n batch
-    → (i : ℕ) → i < length rows → (letter_of letter).present (line_of (get_or rows i [])) + get_or (increases (shares_in kind) (letter_of letter) c batch (lines_of rows)) i 0 ≤ most
-increases-fit-rows kind letter c n batch rows fl fb i h =
-    let k = increases-fit kind letter c (lines_of rows) (line_of []) n batch fl fb i (rw (length-map rows line_of) h) in
-    le_trans (rw (get_or-map line_of rows i []) at k) (omega arith)
+-- as `apply` asks it
+pub increases-applicable : (kind : Batch) (letter : Letter) (c : Constraint) (n : ℕ) (batch : List Measured) (lines : List Line) → LinesFit lines → MeasuredFit n batch
+    → (i : ℕ) (d : Line) → i < length lines → (letter_of letter).present (get_or lines i d) + get_or (increases (shares_in kind) (letter_of letter) c batch lines) i 0 ≤ most
+increases-applicable kind letter c n batch lines fl fb i d h = let k = increases-fit kind letter c lines d n batch fl fb i h in omega arith
 
 -- ---- a raised line is within the limit
 
-limit-plus-le : (base increase k : ℕ) (limit : Limit) → or_base limit base + increase ≤ k → limit_number (limit_plus base increase limit) ≤ k
+limit-plus-le : (base increase k : ℕ) (limit : Limit) → or_base limit base + increase ≤ k → amount_number (limit_plus base increase limit) ≤ k
 limit-plus-le base increase k None h = go (ltb 0 increase)
   where
-    go : (b : Bool) → limit_number (cond b (Some (base + increase)) None) ≤ k
+    go : (b : Bool) → amount_number (cond b (Some (base + increase)) None) ≤ k
     go true = h
     go false = zero-le
 limit-plus-le base increase k (Some n) h = h
@@ -186,17 +183,17 @@ grown-fits D l increase f h = record { track = f.track; base = h; limit = at-lea
 grown-fits E l increase f h = record { track = f.track; base = f.base; limit = limit-plus-le l.base increase most_size l.limit h }
 grown-fits F l increase f h = record { track = f.track; base = f.base; limit = limit-plus-le l.base increase most_size l.limit h }
 
-all_grown : (letter : Letter) (d : Line) (ls : List Line) (xs : List ℕ) → LinesFit ls
-    → ((i : ℕ) → i < length ls → (letter_of letter).present (get_or ls i d) + get_or xs i 0 ≤ most_size) → LinesFit (zip_with (letter_of letter).grown ls xs)
+all_grown : (letter : Letter) (ls : List Line) (xs : List ℕ) → LinesFit ls
+    → ((i : ℕ) (d : Line) → i < length ls → (letter_of letter).present (get_or ls i d) + get_or xs i 0 ≤ most_size) → LinesFit (zip_with (letter_of letter).grown ls xs)
 unfolding zip_with All
-all_grown letter d [] xs f h = tt
-all_grown letter d (l ∷ ls) [] f h = tt
-all_grown letter d (l ∷ ls) (x ∷ xs) f h = (
-  grown-fits letter l x f.0 (h 0 (omega arith)),
-  all_grown letter d ls xs f.1 (λ (i : ℕ) (k : i < length ls). h (suc i) (omega arith)),
+all_grown letter [] xs f h = tt
+all_grown letter (l ∷ ls) [] f h = tt
+all_grown letter (l ∷ ls) (x ∷ xs) f h = (
+  grown-fits letter l x f.0 (h 0 l (omega arith)),
+  all_grown letter ls xs f.1 (λ (i : ℕ) (d : Line) (k : i < length ls). h (suc i) d (omega arith)),
 )
 
 pub raise-fits : (kind : Batch) (letter : Letter) (c : Constraint) (n : ℕ) (batch : List Measured) (ls : List Line) → LinesFit ls → MeasuredFit n batch
     → LinesFit (raise (shares_in kind) c batch (letter_of letter) ls)
 unfolding raise
-raise-fits kind letter c n batch ls fl fb = all_grown letter (line_of []) ls (increases (shares_in kind) (letter_of letter) c batch ls) fl (increases-fit kind letter c ls (line_of []) n batch fl fb)
+raise-fits kind letter c n batch ls fl fb = all_grown letter ls (increases (shares_in kind) (letter_of letter) c batch ls) fl (λ i d k. increases-fit kind letter c ls d n batch fl fb i k)

@@ -5,7 +5,7 @@ use mathlib.Core.List.{List, [], ◌∷◌, map, zip_with}
 use Prim.Native.Nat.{ℕ, zero, suc, ◌+◌, ◌-◌, ◌≤◌, zero-le}
 use native.Mathlib.Nat.{zero-add}
 use native.Mathlib.Omega.{arith}
-use lib.ListN.{length, get_or, replicate, length-map}
+use lib.ListN.{length, get_or, replicate}
 use Rattle.laws.specs.Lists.{some, All}
 use Rattle.laws.specs.Alls.{image-all}
 use Rattle.laws.specs.Marks.{bit}
@@ -16,7 +16,7 @@ use Rattle.rounds.proofs.OpenMarks.{Among, one, odd-among}
 use Rattle.rounds.proofs.Level.{fill-level}
 use Rattle.rounds.proofs.Tied.{Fresh}
 use Rattle.rounds.proofs.Fresh.{gain-add-left-le, lost-is-gains, left-is-left, rounds-are-rounds}
-use Rattle.kinds.specs.Kinds.{Row, maximum_number}
+use Rattle.kinds.specs.Kinds.{maximum_number, amount_number}
 use Rattle.kinds.specs.declared.track.Maximum.{Maximum}
 use Rattle.kinds.specs.declared.track.Maximum.TheVariants as maximum
 use Rattle.spanned.specs.Rule.{most_size}
@@ -25,9 +25,7 @@ use Rattle.std.specs.Prelude.{Some, None}
 use Rattle.lines.specs.declared.line.Line.{Line}
 use Rattle.lines.specs.Rule.{Limit, argument_of, argument, room_to, limit_size, first_track, more_gains, shares}
 use Rattle.lines.specs.Rule as rule
-use Rattle.lines.specs.Rows.{limit_number, line_of, lines_of}
 use Rattle.lines.specs.Fits.{LineFits}
-use Rattle.lines.proofs.Increases.{get_or-zeros}
 use Rattle.letters.specs.declared.letter.Letter.{Letter}
 use Rattle.letters.specs.declared.letter.Letter.TheVariants.{A, B, C, D, E, F}
 use Rattle.letters.specs.declared.share.Share.{Share}
@@ -60,9 +58,9 @@ share-is-map share (l ∷ ls) [] e = absurd (omega arith)
 share-is-map share (l ∷ ls) (g ∷ gains) e = ap (track_in share l ∷◌) (share-is-map share ls gains (omega arith))
 
 -- so the caps of the lines are those of the share
-pub share-caps : (share : Share) (dots : ℕ) (rows : List Row) (gains rs : List ℕ) → length gains ≡ length rows
-    → rs ≡ caps dots (map (track_in share) (lines_of rows)) → rs ≡ caps dots (share_tracks share (lines_of rows) gains)
-share-caps share dots rows gains rs long loaded = loaded ∙ ap (caps dots) (sym (share-is-map share (lines_of rows) gains (long ∙ sym (length-map rows line_of))))
+pub share-caps : (share : Share) (dots : ℕ) (lines : List Line) (gains rs : List ℕ) → length gains ≡ length lines
+    → rs ≡ caps dots (map (track_in share) lines) → rs ≡ caps dots (share_tracks share lines gains)
+share-caps share dots lines gains rs long loaded = loaded ∙ ap (caps dots) (sym (share-is-map share lines gains long))
 
 -- ---- one share: the rests rs are loaded, the rounds leave xs of them, and what they lost is gained
 
@@ -95,16 +93,13 @@ module _ (share : Share) (dots : ℕ) (ls : List Line) (gains rs xs : List ℕ) 
 
 -- ---- a share on top of no gains
 
-pub zeros-le : (n : ℕ) (zs : List ℕ) → zs ≡ replicate n 0 → (i : ℕ) → get_or zs i 0 ≤ most_dots
-zeros-le n zs e i = let z : get_or zs i 0 ≡ 0 = ap (λ (ys : List ℕ). get_or ys i 0) e ∙ get_or-zeros n i in omega arith
-
 -- as many as there are of something else
 pub zeros-as : {m n : ℕ} {zs : List ℕ} → zs ≡ replicate m 0 → m ≡ n → zs ≡ replicate n 0
 zeros-as z e = z ∙ ap (λ (k : ℕ). replicate k 0) e
 
 -- as many as there are lines
-pub zeros-of-lines : (rows : List Row) (n : ℕ) (zs : List ℕ) → zs ≡ replicate n 0 → n ≡ length rows → zs ≡ replicate (length (lines_of rows)) 0
-zeros-of-lines rows n zs e h = zeros-as {m = n} {n = length (lines_of rows)} e (h ∙ sym (length-map rows line_of))
+pub zeros-of-lines : (lines : List Line) (n : ℕ) (zs : List ℕ) → zs ≡ replicate n 0 → n ≡ length lines → zs ≡ replicate (length lines) 0
+zeros-of-lines lines n zs e h = zeros-as {m = n} {n = length lines} e h
 
 pub zeros-more : (n : ℕ) (gs : List ℕ) → length gs ≡ n → zip_with ◌+◌ (replicate n 0) gs ≡ gs
 unfolding zip_with
@@ -177,7 +172,7 @@ rest-shared letter takers_only dots ls gains cs rs xs gs left rounds kept loaded
     ∙ ap (zip_with ◌+◌ gains) (lost-is-gains dots ts (rest-fresh letter takers_only ls gains) xs left rounds filled)
 
 -- no cap is above the most dots: an argument is a size
-argument-le : (m : Maximum) → maximum_number m ≤ most_of m → limit_number (argument_of m) ≤ most_size
+argument-le : (m : Maximum) → maximum_number m ≤ most_of m → amount_number (argument_of m) ≤ most_size
 argument-le (maximum.Fixed n) h = zero-le
 argument-le maximum.Auto h = zero-le
 argument-le maximum.MinContent h = zero-le
@@ -185,7 +180,7 @@ argument-le maximum.MaxContent h = zero-le
 argument-le (maximum.FitContent n) h = h
 argument-le (maximum.Fr n) h = zero-le
 
-room-le : (dots size : ℕ) (limit : Limit) → dots ≤ most_dots → limit_number limit ≤ most_size → cap_in dots (room_to limit size) ≤ most_dots
+room-le : (dots size : ℕ) (limit : Limit) → dots ≤ most_dots → amount_number limit ≤ most_size → cap_in dots (room_to limit size) ≤ most_dots
 room-le dots size None d h = d
 room-le dots size (Some n) d h = omega arith
 

@@ -3,66 +3,47 @@ use mathlib.Core.Path.{◌≡◌, refl, sym, ap, ◌∙◌}
 use mathlib.Core.Bool.{Bool, true, false, cond, ◌||◌}
 use mathlib.Core.List.{List, [], ◌∷◌, map}
 use Prim.Native.Nat.{ℕ, ◌+◌, ◌≤◌, ◌<◌, max}
-use native.Mathlib.Nat.{add-zero, zero-add}
+use native.Mathlib.Nat.{add-zero}
 use native.Mathlib.Omega.{arith}
 use lib.ListN.{length, get_or, drop, drop_of_length-le}
-use Rattle.laws.specs.Lists.{among, some, every, larger}
-use Rattle.laws.specs.Alls.{all-image-at}
+use Rattle.laws.specs.Lists.{among, some, every, larger, all-at}
 use Rattle.laws.specs.Sums.{sum}
 use Rattle.laws.specs.Walk.{next}
-use Rattle.kinds.specs.Kinds.{Row, maximum_tag, maximum_number}
+use Rattle.kinds.specs.Kinds.{maximum_tag, maximum_number}
 use Rattle.kinds.specs.declared.track.Maximum.{Maximum}
 use Rattle.kinds.specs.declared.track.Maximum.TheVariants as maximum
 use Rattle.spanned.specs.Rule.{most_size}
 use Rattle.spanned.specs.Sound.{most_of}
 use Rattle.std.specs.Prelude.{Some, None}
+use Rattle.std.specs.List.{list_any}
 use Rattle.lines.specs.declared.line.Line.{Line}
 use Rattle.lines.specs.Rule.{Limit, max_in, number, maxima}
-use Rattle.lines.specs.Rows.{line_of, lines_of}
 use Rattle.lines.specs.Fits.{LineFits, LinesFit}
 use Rattle.letters.specs.Letters.{fixed_maximum}
 
--- ---- the lines of the rows from i on
-
-abbrev pub lines_from : List Row → ℕ → List Line
-lines_from rows i = lines_of (drop i rows)
-
-module _ (rows : List Row) (i : ℕ) where
-  pub lines_next : i < length rows → lines_from rows i ≡ line_of (get_or rows i []) ∷ lines_from rows (i + 1)
-  lines_next h = ap (λ (rs : List Row). lines_of rs) (next rows i [] h)
-
-  pub lines_end : length rows ≤ i → lines_from rows i ≡ []
-  lines_end h = ap (λ (rs : List Row). lines_of rs) (drop_of_length-le rows h)
-
-  pub line-fits : LinesFit (lines_of rows) → i < length rows → LineFits (line_of (get_or rows i []))
-  line-fits a h = all-image-at LineFits line_of rows i [] a h
+module _ (lines : List Line) (i : ℕ) where
+  pub line-fits : (d : Line) → LinesFit lines → i < length lines → LineFits (get_or lines i d)
+  line-fits d a h = all-at LineFits lines i d a h
 
   -- ---- a sum of what each line has
 
-  pub total-step : (P : Line → ℕ) (total v w : ℕ) → i < length rows → v ≡ P (line_of (get_or rows i [])) → total + sum (map P (lines_from rows i)) ≡ w
-      → (total + v) + sum (map P (lines_from rows (i + 1))) ≡ w
+  pub total-step : (d : Line) (P : Line → ℕ) (total v w : ℕ) → i < length lines → v ≡ P (get_or lines i d) → total + sum (map P (drop i lines)) ≡ w
+      → (total + v) + sum (map P (drop (i + 1) lines)) ≡ w
   unfolding sum
-  total-step P total v w h e p =
-      let q : sum (map P (lines_from rows i)) ≡ P (line_of (get_or rows i [])) + sum (map P (lines_from rows (i + 1))) = ap (λ (ls : List Line). sum (map P ls)) (lines_next h) in
+  total-step d P total v w h e p =
+      let q : sum (map P (drop i lines)) ≡ P (get_or lines i d) + sum (map P (drop (i + 1) lines)) = ap (λ (ls : List Line). sum (map P ls)) (next lines i d h) in
       omega arith
 
-  pub total-end : (P : Line → ℕ) (total w : ℕ) → length rows ≤ i → total + sum (map P (lines_from rows i)) ≡ w → total ≡ w
+  pub total-end : (P : Line → ℕ) (total w : ℕ) → length lines ≤ i → total + sum (map P (drop i lines)) ≡ w → total ≡ w
   unfolding sum
-  total-end P total w h p = let q : sum (map P (lines_from rows i)) ≡ 0 = ap (λ (ls : List Line). sum (map P ls)) (lines_end h) in omega arith
+  total-end P total w h p = let q : sum (map P (drop i lines)) ≡ 0 = ap (λ (ls : List Line). sum (map P ls)) (drop_of_length-le lines h) in omega arith
 
-  -- ---- whether one of them passes
+-- ---- whether one of them passes
 
-  pub some-hit : (p : Line → Bool) → i < length rows → p (line_of (get_or rows i [])) ≡ true → some p (lines_from rows i) ≡ true
-  unfolding some
-  some-hit p h e = ap (some p) (lines_next h) ∙ ap (λ (b : Bool). b || some p (lines_from rows (i + 1))) e
-
-  pub some-miss : (p : Line → Bool) → i < length rows → p (line_of (get_or rows i [])) ≡ false → some p (lines_from rows i) ≡ some p (lines_from rows (i + 1))
-  unfolding some
-  some-miss p h e = ap (some p) (lines_next h) ∙ ap (λ (b : Bool). b || some p (lines_from rows (i + 1))) e
-
-  pub some_end : (p : Line → Bool) → length rows ≤ i → some p (lines_from rows i) ≡ false
-  unfolding some
-  some_end p h = ap (some p) (lines_end h)
+pub any-some : (p : Line → Bool) (ls : List Line) → list_any p ls ≡ some p ls
+unfolding some
+any-some p [] = refl
+any-some p (l ∷ ls) = ap (p l ||◌) (any-some p ls)
 
 -- ---- the sum of the maxima
 
@@ -70,10 +51,6 @@ module _ (rows : List Row) (i : ℕ) where
 abbrev pub plus : ℕ → Limit → Limit
 plus n None = None
 plus n (Some m) = Some (n + m)
-
-pub plus-zero : (m : Limit) → plus 0 m ≡ m
-plus-zero None = refl
-plus-zero (Some m) = ap Some (zero-add m)
 
 plus-plus : (a b : ℕ) (m : Limit) → plus a (plus b m) ≡ plus (a + b) m
 plus-plus a b None = refl
@@ -120,28 +97,28 @@ maxima-none : (l : Line) (ls : List Line) → fixed_maximum l.track.maximum ≡ 
 unfolding every sum
 maxima-none l ls e = rw (fixed-not l.track.maximum e) refl
 
-module _ (rows : List Row) (i total : ℕ) (w : Limit) where
-  pub maxima-step : (n : ℕ) → i < length rows → fixed_maximum (line_of (get_or rows i [])).track.maximum ≡ Some n
-      → plus total (maxima (lines_from rows i)) ≡ w → plus (total + n) (maxima (lines_from rows (i + 1))) ≡ w
-  maxima-step n h e p =
-      sym (plus-plus total n (maxima (lines_from rows (i + 1))))
-      ∙ ap (plus total) (sym (maxima-cons (line_of (get_or rows i [])) (lines_from rows (i + 1)) n e) ∙ ap (λ (ls : List Line). maxima ls) (sym (lines_next rows i h)))
+module _ (lines : List Line) (i total : ℕ) (w : Limit) where
+  pub maxima-step : (d : Line) (n : ℕ) → i < length lines → fixed_maximum (get_or lines i d).track.maximum ≡ Some n
+      → plus total (maxima (drop i lines)) ≡ w → plus (total + n) (maxima (drop (i + 1) lines)) ≡ w
+  maxima-step d n h e p =
+      sym (plus-plus total n (maxima (drop (i + 1) lines)))
+      ∙ ap (plus total) (sym (maxima-cons (get_or lines i d) (drop (i + 1) lines) n e) ∙ ap (λ (ls : List Line). maxima ls) (sym (next lines i d h)))
       ∙ p
 
-  pub maxima-stop : i < length rows → fixed_maximum (line_of (get_or rows i [])).track.maximum ≡ None → plus total (maxima (lines_from rows i)) ≡ w → None ≡ w
-  maxima-stop h e p =
-      ap (plus total) (sym (maxima-none (line_of (get_or rows i [])) (lines_from rows (i + 1)) e) ∙ ap (λ (ls : List Line). maxima ls) (sym (lines_next rows i h)))
+  pub maxima-stop : (d : Line) → i < length lines → fixed_maximum (get_or lines i d).track.maximum ≡ None → plus total (maxima (drop i lines)) ≡ w → None ≡ w
+  maxima-stop d h e p =
+      ap (plus total) (sym (maxima-none (get_or lines i d) (drop (i + 1) lines) e) ∙ ap (λ (ls : List Line). maxima ls) (sym (next lines i d h)))
       ∙ p
 
-  pub maxima-end : length rows ≤ i → plus total (maxima (lines_from rows i)) ≡ w → Some total ≡ w
+  pub maxima-end : length lines ≤ i → plus total (maxima (drop i lines)) ≡ w → Some total ≡ w
   unfolding every sum
   maxima-end h p =
       ap Some (sym (add-zero total))
-      ∙ ap (λ (ls : List Line). plus total (maxima ls)) (sym (lines_end rows i h))
+      ∙ ap (λ (ls : List Line). plus total (maxima ls)) (sym (drop_of_length-le lines h))
       ∙ p
 
-pub fixed-fits : (rows : List Row) (i n : ℕ) → LinesFit (lines_of rows) → i < length rows → fixed_maximum (line_of (get_or rows i [])).track.maximum ≡ Some n → n ≤ most_size
-fixed-fits rows i n a h e = fixed-le (line_of (get_or rows i [])).track.maximum n e (line-fits rows i a h).track.1
+pub fixed-fits : (lines : List Line) (i : ℕ) (d : Line) (n : ℕ) → LinesFit lines → i < length lines → fixed_maximum (get_or lines i d).track.maximum ≡ Some n → n ≤ most_size
+fixed-fits lines i d n a h e = fixed-le (get_or lines i d).track.maximum n e (line-fits lines i d a h).track.1
 
 -- ---- the larger of each two
 

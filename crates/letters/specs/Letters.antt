@@ -1,6 +1,5 @@
 -- The code's letters, and its tests of kinds, in the words of the rule. Assumes nothing.
-use Rattle.std.specs.Prelude.{◌≡◌, ℕ, ◌<◌, Bool, true, false, List, [], length, get_or, Some, None}
-use Rattle.kinds.specs.Kinds.{Row}
+use Rattle.std.specs.Prelude.{◌≡◌, ℕ, Bool, true, false, Some, None}
 use Rattle.kinds.specs.declared.track.Minimum.{Minimum}
 use Rattle.kinds.specs.declared.track.Minimum.TheVariants as minimum
 use Rattle.kinds.specs.declared.track.Maximum.{Maximum}
@@ -8,7 +7,6 @@ use Rattle.kinds.specs.declared.track.Maximum.TheVariants as maximum
 use Rattle.lines.specs.Rule.{Limit, letter_a, letter_b, letter_c, letter_d, letter_e, letter_f}
 use Rattle.lines.specs.Rule as rule
 use Rattle.lines.specs.declared.line.Line.{Line}
-use Rattle.lines.specs.Rows.{line_of}
 use Rattle.letters.specs.declared.letter.Letter.{Letter}
 use Rattle.letters.specs.declared.letter.Letter.TheVariants.{A, B, C, D, E, F}
 
@@ -55,7 +53,3 @@ fixed_maximum maximum.MinContent = None
 fixed_maximum maximum.MaxContent = None
 fixed_maximum (maximum.FitContent n) = Some n
 fixed_maximum (maximum.Fr n) = None
-
--- a test of lines tells of each of these rows whether its line passes
-abbrev pub Tells : (Line → Bool → Type 0) → List Row → (Line → Bool) → Type 0
-Tells test rows passes = (i : ℕ) (told : Bool) → i < length rows → test (line_of (get_or rows i [])) told → told ≡ passes (line_of (get_or rows i []))

@@ -1,9 +1,9 @@
-// The two sorts of batch in step 3: of a span, whose items cross no fr track, and the last, whose items do. They differ in whom a letter affects
-// and in how extra dots are shared.
+// The two sorts of batch in step 3: of a span, whose items cross no fr track, and the last, whose items do. An enum, and no functions handed over: whom a
+// letter affects, how extra dots are shared and which letters run are asked in three places of one walk. Lines, gains and rests are three slices:
+// share.rt says why.
 ghost use Rattle.std.specs.Prelude.{◌≡◌, true, ◌≤◌};
 ghost use Rattle.laws.specs.Lists.{some};
 ghost use Rattle.rounds.specs.Rule.{most_dots};
-ghost use Rattle.lines.specs.Rows.{lines_of};
 ghost use Rattle.lines.specs.Fits.{LinesFit};
 ghost use Rattle.letters.specs.Letters.{letter_of};
 ghost use Rattle.letters.specs.Shares.{Scratch};
@@ -12,7 +12,6 @@ ghost use Rattle.letters.specs.Batches.{affected_in, shares_in};
 use crate::by_factor::{affects_fr, share_by_factor};
 use crate::letter::Letter;
 use crate::share::share_extra;
-use crate::some_line::some_line;
 use lines::Line;
 
 #[derive(Clone, Copy)]
@@ -33,10 +32,10 @@ impl Batch {
 }
 
 // Whether a letter affects any of the lines that an item spans: where it affects none, no share is made.
-pub fn affects_some(batch: Batch, letter: Letter, lines: &[[u32; 8]]) -> bool
-    ensures { result ≡ some (affected_in batch (letter_of letter)) (lines_of lines.now) }
+pub fn affects_some(batch: Batch, letter: Letter, lines: &[Line]) -> bool
+    ensures { result ≡ some (affected_in batch (letter_of letter)) lines.now }
 {
-    some_line(lines, |line| batch.affects(letter, line))
+    lines.iter().any(|line| batch.affects(letter, *line))
 }
 
 // The extra dots of an item, shared as its batch has it among lines of which one at least is affected.
@@ -44,15 +43,15 @@ pub fn share_in(
     batch: Batch,
     letter: Letter,
     extra: u32,
-    lines: &[[u32; 8]],
+    lines: &[Line],
     gains: &mut [u32],
     rests: &mut [u32],
 )
     requires { Scratch lines.now gains.old rests.old
         × (extra ≤ most_dots)
-        × LinesFit (lines_of lines.now)
-        × (some (affected_in batch (letter_of letter)) (lines_of lines.now) ≡ true) }
-    ensures { gains.new ≡ shares_in batch (letter_of letter) extra (lines_of lines.now) }
+        × LinesFit lines.now
+        × (some (affected_in batch (letter_of letter)) lines.now ≡ true) }
+    ensures { gains.new ≡ shares_in batch (letter_of letter) extra lines.now }
 {
     match batch {
         Batch::OfSpan => share_extra(letter, extra, lines, gains, rests),

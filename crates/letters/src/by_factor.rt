@@ -1,5 +1,6 @@
 // The share by factor of the last batch (lines/specs/ByFactor.antt is the rule): only affected fr tracks take part. The factors stand in gains and
-// rests while it is made, so that the dots over go out by the rounds' own walk. Products have 64 bits.
+// rests while it is made, so that the dots over go out by the rounds' own walk. Products have 64 bits. Lines, gains and rests are three slices, read by
+// index: share.rt says why.
 ghost use Rattle.std.specs.Prelude.{◌≡◌, true, ◌+◌, ◌≤◌, ◌<◌, length};
 ghost use mathlib.Core.List.{zip_with};
 ghost use Rattle.laws.specs.Lists.{some};
@@ -7,7 +8,6 @@ ghost use Rattle.laws.specs.Sums.{sum};
 ghost use Rattle.rounds.specs.Rule.{most_dots};
 ghost use Rattle.lines.specs.ByFactor.{quota, quotas, dots_over, by_factors};
 ghost use Rattle.lines.specs.Rule.{affects_fr, shares_by_factor};
-ghost use Rattle.lines.specs.Rows.{line_of, lines_of};
 ghost use Rattle.lines.specs.Fits.{LinesFit};
 ghost use Rattle.letters.specs.Letters.{letter_of};
 ghost use Rattle.letters.specs.Shares.{Scratch};
@@ -25,27 +25,27 @@ pub(crate) fn affects_fr(letter: Letter, line: Line) -> bool
     letter.affected(line) & is_fr(line.track)
 }
 
-// The factor of a line, which its row has as the maximum's number; 0 where the letter does not affect it or it is not fr.
-fn line_factor(letter: Letter, row: [u32; 8]) -> u32
-    ensures { result ≡ line_factor letter (line_of row) }
+// The factor of a line; 0 where the letter does not affect it or it is not fr.
+fn line_factor(letter: Letter, line: Line) -> u32
+    ensures { result ≡ line_factor letter line }
 {
-    if affects_fr(letter, Line::of_row(row)) {
-        row[3]
+    if affects_fr(letter, line) {
+        line.number()
     } else {
         0
     }
 }
 
 // The factors that count, into gains and rests. All of them together come back.
-fn load_factors(letter: Letter, lines: &[[u32; 8]], gains: &mut [u32], rests: &mut [u32]) -> u64
+fn load_factors(letter: Letter, lines: &[Line], gains: &mut [u32], rests: &mut [u32]) -> u64
     requires { Scratch lines.now gains.old rests.old }
     ensures { (gains.new ≡ line_factors letter lines.now)
         × (rests.new ≡ line_factors letter lines.now)
         × (result ≡ sum (line_factors letter lines.now)) }
 {
     let mut total: u64 = 0;
-    for (i, row) in lines.iter().enumerate() {
-        let factor = line_factor(letter, *row);
+    for (i, line) in lines.iter().enumerate() {
+        let factor = line_factor(letter, *line);
         gains[i] = factor;
         rests[i] = factor;
         total += factor as u64;
@@ -99,15 +99,15 @@ fn share_quotas(dots: u32, total: u64, gains: &mut [u32], rests: &mut [u32])
 pub(crate) fn share_by_factor(
     letter: Letter,
     extra: u32,
-    lines: &[[u32; 8]],
+    lines: &[Line],
     gains: &mut [u32],
     rests: &mut [u32],
 )
     requires { Scratch lines.now gains.old rests.old
         × (extra ≤ most_dots)
-        × LinesFit (lines_of lines.now)
-        × (some (affects_fr (letter_of letter)) (lines_of lines.now) ≡ true) }
-    ensures { gains.new ≡ shares_by_factor (letter_of letter) extra (lines_of lines.now) }
+        × LinesFit lines.now
+        × (some (affects_fr (letter_of letter)) lines.now ≡ true) }
+    ensures { gains.new ≡ shares_by_factor (letter_of letter) extra lines.now }
 {
     if lines.len() == 1 {
         gains[0] = extra;

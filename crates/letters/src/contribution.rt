@@ -3,7 +3,6 @@ ghost use Rattle.std.specs.Prelude.{◌≡◌, map, ◌-◌, ◌≤◌, length};
 ghost use Rattle.laws.specs.Sums.{sum};
 ghost use Rattle.rounds.specs.Rule.{most_tracks};
 ghost use Rattle.lines.specs.Rule.{maxima, limited, for_auto, extra_of};
-ghost use Rattle.lines.specs.Rows.{lines_of};
 ghost use Rattle.lines.specs.Fits.{LinesFit};
 ghost use Rattle.letters.specs.Letters.{letter_of, fixed_maximum};
 ghost use Rattle.letters.specs.Props.{lines-fit-once};
@@ -25,26 +24,26 @@ fn fixed_maximum(line: Line) -> Option<u32>
 // The lines that an item spans, or the one of its track: not too many, and each of them fits.
 #[derive(Clone, Copy)]
 pub struct Span<'a> {
-    pub lines: &'a [[u32; 8]],
+    pub lines: &'a [Line],
     ghost few: { length lines.now ≤ most_tracks },
-    ghost fit: { LinesFit (lines_of lines.now) } by { lines-fit-once (lines_of lines.now) },
+    ghost fit: { LinesFit lines.now } by { lines-fit-once lines.now },
 }
 
 impl<'a> Span<'a> {
     // The sum of the spanned maxima when all are fixed or fit-content.
     fn maxima(self) -> Option<u32>
-        ensures { result ≡ maxima (lines_of self.entry.lines.now) }
+        ensures { result ≡ maxima self.entry.lines.now }
     {
         let mut sum: u32 = 0;
-        for row in self.lines {
-            sum += fixed_maximum(Line::of_row(*row))?;
+        for line in self.lines {
+            sum += fixed_maximum(*line)?;
         }
         Some(sum)
     }
 
     // Cut to the sum of the maxima, then raised to the minimum contribution.
     fn limited(self, n: u32, item: Measured) -> u32
-        ensures { result ≡ limited n item (lines_of self.entry.lines.now) }
+        ensures { result ≡ limited n item self.entry.lines.now }
     {
         let cut = self.maxima().map_or(n, |most| most.min(n));
         item.at(ContributionKind::Minimum).max(cut)
@@ -52,7 +51,7 @@ impl<'a> Span<'a> {
 
     // The minimum contribution, or under a min- or max-content constraint the limited min-content one.
     pub fn for_auto(self, constraint: Constraint, item: Measured) -> u32
-        ensures { result ≡ for_auto constraint item (lines_of self.entry.lines.now) }
+        ensures { result ≡ for_auto constraint item self.entry.lines.now }
     {
         match constraint {
             Constraint::Definite(_) => item.at(ContributionKind::Minimum),
@@ -61,7 +60,7 @@ impl<'a> Span<'a> {
     }
 
     fn contribution(self, letter: Letter, constraint: Constraint, item: Measured) -> u32
-        ensures { result ≡ (letter_of letter).contribution constraint item (lines_of self.entry.lines.now) }
+        ensures { result ≡ (letter_of letter).contribution constraint item self.entry.lines.now }
     {
         match letter {
             Letter::A => self.for_auto(constraint, item),
@@ -73,8 +72,8 @@ impl<'a> Span<'a> {
 
     // The dots that an item asks beyond the sizes of the lines that it spans, which make `total`.
     pub fn extra(self, letter: Letter, constraint: Constraint, item: Measured, total: u64) -> u32
-        requires { total ≡ sum (map (letter_of letter).present (lines_of self.lines.now)) }
-        ensures { result ≡ extra_of (letter_of letter) constraint item (lines_of self.entry.lines.now) }
+        requires { total ≡ sum (map (letter_of letter).present self.lines.now) }
+        ensures { result ≡ extra_of (letter_of letter) constraint item self.entry.lines.now }
     {
         beyond(self.contribution(letter, constraint, item), total)
     }

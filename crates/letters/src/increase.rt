@@ -1,12 +1,13 @@
-// The increases of a letter: each track's is the largest any item gave it, and all are applied at the letter's end.
+// The increases of a letter: each track's is the largest any item gave it, and all are applied at the letter's end. Lists that go along are read by index,
+// as in share.rt.
 ghost use Rattle.std.specs.Prelude.{◌≡◌, length};
 ghost use mathlib.Core.List.{zip_with};
 ghost use Rattle.laws.specs.Lists.{larger};
 ghost use Rattle.lines.specs.Rule.{grown_base};
-ghost use Rattle.lines.specs.Rows.{lines_of};
 ghost use Rattle.letters.specs.Increases.{Applicable, BasesApplicable, applied, NoIncrease};
 
 use crate::letter::Letter;
+use lines::Line;
 
 // What an item gave is laid over the largest that any gave before.
 pub fn lay_over(gains: &[u32], increases: &mut [u32])
@@ -19,21 +20,21 @@ pub fn lay_over(gains: &[u32], increases: &mut [u32])
 }
 
 // Every line grows by its increase, and no increase is left.
-pub fn apply(letter: Letter, lines: &mut [[u32; 8]], increases: &mut [u32])
+pub fn apply(letter: Letter, lines: &mut [Line], increases: &mut [u32])
     requires { Applicable letter lines.old increases.old }
-    ensures { (lines_of lines.new ≡ applied letter lines.old increases.old)
+    ensures { (lines.new ≡ applied letter lines.old increases.old)
         × NoIncrease lines.old increases.new }
 {
-    for (i, row) in lines.iter_mut().enumerate() {
-        *row = letter.grown(*row, increases[i]);
+    for (i, line) in lines.iter_mut().enumerate() {
+        *line = letter.grown(*line, increases[i]);
         increases[i] = 0;
     }
 }
 
 // Every base grows by its increase, as (a) has it: what steps 5 and 7 do.
-pub fn grow_bases(lines: &mut [[u32; 8]], increases: &mut [u32])
+pub fn grow_bases(lines: &mut [Line], increases: &mut [u32])
     requires { BasesApplicable lines.old increases.old }
-    ensures { (lines_of lines.new ≡ zip_with grown_base (lines_of lines.old) increases.old)
+    ensures { (lines.new ≡ zip_with grown_base lines.old increases.old)
         × NoIncrease lines.old increases.new }
 {
     apply(Letter::A, lines, increases);

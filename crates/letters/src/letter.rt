@@ -1,11 +1,11 @@
 // The lettered steps (a) to (f) of the longer spans: whom each affects, with what room, and what an increase does.
 ghost use Rattle.std.specs.Prelude.{◌≡◌, ◌+◌, ◌≤◌};
-ghost use Rattle.lines.specs.Rows.{line_of, room_of};
+ghost use Rattle.rounds.specs.Rooms.{room_in};
 ghost use Rattle.lines.specs.Rule.{limit_size, grown_base, grown_limit, limit_room};
 ghost use Rattle.letters.specs.Letters.{by_minimum, by_maximum, letter_of, changes_unraised, most};
 
 use kinds::{Maximum, Minimum};
-use lines::{Line, with_sizes};
+use lines::Line;
 
 #[derive(Clone, Copy)]
 pub enum Letter {
@@ -44,7 +44,7 @@ pub(crate) fn by_maximum(line: Line, wide: bool, min_content: bool, fit_content:
 
 // The room of a limit: none at all, unless it is missing or infinitely growable.
 fn limit_room(line: Line) -> Option<u32>
-    ensures { room_of result ≡ limit_room line }
+    ensures { room_in result ≡ limit_room line }
 {
     if line.limit.is_none() || line.growable {
         return line.argument().map(|n| n.saturating_sub(line.limit_size()));
@@ -66,7 +66,7 @@ impl Letter {
         }
     }
 
-    // Of the affected, those that take what remains before the others.
+    // Of the affected, those that take what remains before the others. By `by_maximum`, as whom a letter affects.
     pub(crate) fn takes(self, line: Line) -> bool
         ensures { result ≡ (letter_of self).takes line }
     {
@@ -78,7 +78,7 @@ impl Letter {
     }
 
     pub(crate) fn room(self, line: Line) -> Option<u32>
-        ensures { room_of result ≡ (letter_of self).room line }
+        ensures { room_in result ≡ (letter_of self).room line }
     {
         match self {
             Letter::E | Letter::F => limit_room(line),
@@ -88,7 +88,7 @@ impl Letter {
 
     // The room for what remains, with a gain already there: no limit for bases, the argument for limits.
     pub(crate) fn rest_room(self, line: Line, gain: u32) -> Option<u32>
-        ensures { room_of result ≡ (letter_of self).rest_room line gain }
+        ensures { room_in result ≡ (letter_of self).rest_room line gain }
     {
         let size = line.limit_size();
         let room = line
@@ -108,37 +108,42 @@ impl Letter {
     }
 
     // What an increase makes of a line.
-    pub(crate) fn grown(self, row: [u32; 8], increase: u32) -> [u32; 8]
-        requires { (letter_of self).present (line_of row) + increase ≤ most }
-        ensures { line_of result ≡ (letter_of self).grown (line_of row) increase }
+    pub(crate) fn grown(self, line: Line, increase: u32) -> Line
+        requires { (letter_of self).present line + increase ≤ most }
+        ensures { result ≡ (letter_of self).grown line increase }
     {
         match self {
-            Letter::A | Letter::B | Letter::C => grown_base(row, increase),
-            Letter::D => lines::settled(grown_base(row, increase)),
-            Letter::E => grown_limit(row, increase, true),
-            Letter::F => grown_limit(row, increase, false),
+            Letter::A | Letter::B | Letter::C => grown_base(line, increase),
+            Letter::D => lines::settled(grown_base(line, increase)),
+            Letter::E => grown_limit(line, increase, true),
+            Letter::F => grown_limit(line, increase, false),
         }
     }
 }
 
-fn grown_base(row: [u32; 8], increase: u32) -> [u32; 8]
-    requires { (line_of row).base + increase ≤ most }
-    ensures { line_of result ≡ grown_base (line_of row) increase }
+fn grown_base(line: Line, increase: u32) -> Line
+    requires { line.base + increase ≤ most }
+    ensures { result ≡ grown_base line increase }
 {
-    let line = Line::of_row(row);
-    with_sizes(row, line.base + increase, line.limit, line.growable)
+    Line {
+        base: line.base + increase,
+        ..line
+    }
 }
 
 // A missing limit becomes base plus increase, if there is one, and is then infinitely growable where the letter marks.
-fn grown_limit(row: [u32; 8], increase: u32, marks: bool) -> [u32; 8]
-    requires { limit_size (line_of row) + increase ≤ most }
-    ensures { line_of result ≡ grown_limit marks (line_of row) increase }
+fn grown_limit(line: Line, increase: u32, marks: bool) -> Line
+    requires { limit_size line + increase ≤ most }
+    ensures { result ≡ grown_limit marks line increase }
 {
-    let line = Line::of_row(row);
-    let base = line.base;
-    match line.limit {
-        None if increase == 0 => with_sizes(row, base, None, false),
-        None => with_sizes(row, base, Some(base + increase), marks),
-        Some(n) => with_sizes(row, base, Some(n + increase), false),
+    let (limit, growable) = match line.limit {
+        None if increase == 0 => (None, false),
+        None => (Some(line.base + increase), marks),
+        Some(n) => (Some(n + increase), false),
+    };
+    Line {
+        limit,
+        growable,
+        ..line
     }
 }

@@ -8,7 +8,6 @@ mod contribution;
 mod increase;
 mod letter;
 mod share;
-mod some_line;
 mod totals;
 
 pub use batch::{Batch, affects_some, share_in};
@@ -16,4 +15,4 @@ pub use contribution::{Span, beyond};
 pub use increase::{apply, grow_bases, lay_over};
 pub use letter::Letter;
 pub use share::{Share, share_out};
-pub use totals::{base_total, tally};
+pub use totals::{Totals, base_total, tally};

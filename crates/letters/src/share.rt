@@ -1,5 +1,6 @@
 // Shares of dots among lines: each gets what the fill gives it, on top of the gain that it has. The two shares of a letter find
 // each cap once, and keep it in the gain while the rounds run. The rests are scratch: what stands in them is not read.
+// Lists that go along with one another are read by index: over `zip` what a loop keeps true would be said of what is left of two iterators.
 // Lines, gains and rests stay three slices and no struct: a caller cuts its part of each for one item, `share_out` takes increases for gains,
 // and the rounds take the rests alone. That lines fit, and that dots are no more than the most, stay clauses: each is a bound that the caller has, and
 // a type for it would be taken off at the first sum.
@@ -9,14 +10,13 @@ ghost use Rattle.laws.specs.Lists.{some};
 ghost use Rattle.rounds.specs.Rule.{most_dots, gains_of};
 ghost use Rattle.rounds.specs.Rests.{cap_in, cap_of, caps, lost};
 ghost use Rattle.lines.specs.Rule.{max_in, more_gains, shares};
-ghost use Rattle.lines.specs.Rows.{lines_of, room_of};
+ghost use Rattle.rounds.specs.Rooms.{room_in};
 ghost use Rattle.lines.specs.Fits.{LinesFit};
 ghost use Rattle.letters.specs.Letters.{letter_of};
 ghost use Rattle.letters.specs.Shares.{track_in, is_taker, first_caps, first_fill, rest_caps, rest_fill, share_fill, taken, Scratch, GainsFit, TakenFits};
 
 use crate::by_factor::affects_fr;
 use crate::letter::Letter;
-use crate::some_line::some_line;
 use kinds::Maximum;
 use lines::Line;
 use rounds::run_rounds;
@@ -32,7 +32,7 @@ pub enum Share {
 
 // A track that is not affected takes nothing.
 fn cap_of(affected: bool, room: Option<u32>, dots: u32) -> u32
-    ensures { result ≡ cond affected (cap_in dots (room_of room)) 0 }
+    ensures { result ≡ cond affected (cap_in dots (room_in room)) 0 }
 {
     if affected { room.unwrap_or(dots) } else { 0 }
 }
@@ -65,22 +65,22 @@ impl Share {
     }
 }
 
-fn load(share: Share, dots: u32, lines: &[[u32; 8]], rests: &mut [u32])
+fn load(share: Share, dots: u32, lines: &[Line], rests: &mut [u32])
     requires { length rests.old ≡ length lines.now }
-    ensures { rests.new ≡ caps dots (map (track_in share) (lines_of lines.now)) }
+    ensures { rests.new ≡ caps dots (map (track_in share) lines.now) }
 {
     for (i, rest) in rests.iter_mut().enumerate() {
-        *rest = share.cap(Line::of_row(lines[i]), dots);
+        *rest = share.cap(lines[i], dots);
     }
 }
 
 // What each rest lost is gained.
-fn collect(share: Share, dots: u32, lines: &[[u32; 8]], rests: &[u32], gains: &mut [u32])
+fn collect(share: Share, dots: u32, lines: &[Line], rests: &[u32], gains: &mut [u32])
     requires { Scratch lines.now gains.old rests.now × TakenFits share dots lines.now gains.old rests.now }
     ensures { gains.new ≡ zip_with ◌+◌ gains.old (taken share dots lines.now gains.old rests.now) }
 {
     for (i, gain) in gains.iter_mut().enumerate() {
-        let cap = share.cap(Line::of_row(lines[i]), dots);
+        let cap = share.cap(lines[i], dots);
         *gain += cap.saturating_sub(rests[i]);
     }
 }
@@ -89,7 +89,7 @@ fn collect(share: Share, dots: u32, lines: &[[u32; 8]], rests: &[u32], gains: &m
 pub fn share_out(
     share: Share,
     dots: u32,
-    lines: &[[u32; 8]],
+    lines: &[Line],
     gains: &mut [u32],
     rests: &mut [u32],
 ) -> u32
@@ -105,14 +105,13 @@ pub fn share_out(
 
 // The caps of a letter's first share: the rounds run on the rests, and the gains keep them. A walk of its own beside `load_rest`, which adds to
 // gains that stand: one for both would take a pass more.
-fn load_first(letter: Letter, dots: u32, lines: &[[u32; 8]], gains: &mut [u32], rests: &mut [u32])
+fn load_first(letter: Letter, dots: u32, lines: &[Line], gains: &mut [u32], rests: &mut [u32])
     requires { Scratch lines.now gains.old rests.old }
     ensures { (gains.new ≡ first_caps letter dots lines.now)
         × (rests.new ≡ first_caps letter dots lines.now) }
 {
-    for (i, row) in lines.iter().enumerate() {
-        let line = Line::of_row(*row);
-        let cap = cap_of(letter.affected(line), letter.room(line), dots);
+    for (i, line) in lines.iter().enumerate() {
+        let cap = cap_of(letter.affected(*line), letter.room(*line), dots);
         gains[i] = cap;
         rests[i] = cap;
     }
@@ -134,7 +133,7 @@ pub(crate) fn take_off(rests: &[u32], gains: &mut [u32])
 fn share_first(
     letter: Letter,
     dots: u32,
-    lines: &[[u32; 8]],
+    lines: &[Line],
     gains: &mut [u32],
     rests: &mut [u32],
 ) -> u32
@@ -149,10 +148,12 @@ fn share_first(
 }
 
 // Some affected track takes what remains.
-fn some_taker(letter: Letter, lines: &[[u32; 8]]) -> bool
-    ensures { result ≡ some (is_taker (letter_of letter)) (lines_of lines.now) }
+fn some_taker(letter: Letter, lines: &[Line]) -> bool
+    ensures { result ≡ some (is_taker (letter_of letter)) lines.now }
 {
-    some_line(lines, |line| letter.affected(line) & letter.takes(line))
+    lines
+        .iter()
+        .any(|line| letter.affected(*line) & letter.takes(*line))
 }
 
 // The caps of what remains: the rounds run on the rests, and each gain has its cap on top.
@@ -160,20 +161,19 @@ fn load_rest(
     letter: Letter,
     takers_only: bool,
     dots: u32,
-    lines: &[[u32; 8]],
+    lines: &[Line],
     gains: &mut [u32],
     rests: &mut [u32],
 )
-    requires { Scratch lines.now gains.old rests.old × (dots ≤ most_dots) × GainsFit gains.old × LinesFit (lines_of lines.now) }
+    requires { Scratch lines.now gains.old rests.old × (dots ≤ most_dots) × GainsFit gains.old × LinesFit lines.now }
     ensures { (gains.new ≡ zip_with ◌+◌ gains.old (rest_caps letter takers_only dots lines.now gains.old))
         × (rests.new ≡ rest_caps letter takers_only dots lines.now gains.old) }
 {
-    for (i, row) in lines.iter().enumerate() {
-        let line = Line::of_row(*row);
+    for (i, line) in lines.iter().enumerate() {
         let gain = gains[i];
         let cap = cap_of(
-            takes_rest(letter, takers_only, line),
-            letter.rest_room(line, gain),
+            takes_rest(letter, takers_only, *line),
+            letter.rest_room(*line, gain),
             dots,
         );
         gains[i] = gain + cap;
@@ -186,11 +186,11 @@ fn share_rest(
     letter: Letter,
     takers_only: bool,
     dots: u32,
-    lines: &[[u32; 8]],
+    lines: &[Line],
     gains: &mut [u32],
     rests: &mut [u32],
 )
-    requires { Scratch lines.now gains.old rests.old × (dots ≤ most_dots) × GainsFit gains.old × LinesFit (lines_of lines.now) }
+    requires { Scratch lines.now gains.old rests.old × (dots ≤ most_dots) × GainsFit gains.old × LinesFit lines.now }
     ensures { gains.new ≡ more_gains gains.old (rest_fill letter takers_only dots lines.now gains.old) }
 {
     load_rest(letter, takers_only, dots, lines, gains, rests);
@@ -202,12 +202,12 @@ fn share_rest(
 pub(crate) fn share_extra(
     letter: Letter,
     extra: u32,
-    lines: &[[u32; 8]],
+    lines: &[Line],
     gains: &mut [u32],
     rests: &mut [u32],
 )
-    requires { Scratch lines.now gains.old rests.old × (extra ≤ most_dots) × LinesFit (lines_of lines.now) }
-    ensures { gains.new ≡ shares (letter_of letter) extra (lines_of lines.now) }
+    requires { Scratch lines.now gains.old rests.old × (extra ≤ most_dots) × LinesFit lines.now }
+    ensures { gains.new ≡ shares (letter_of letter) extra lines.now }
 {
     let left = share_first(letter, extra, lines, gains, rests);
     if left == 0 {

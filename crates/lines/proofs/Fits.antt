@@ -24,15 +24,15 @@ use Rattle.std.specs.Prelude.{Some, None}
 use Rattle.lines.specs.declared.line.Line.{Line}
 use Rattle.lines.specs.declared.measured.Measured.{Measured}
 use Rattle.lines.specs.Rule.{Limit, contribution_at, line, with_limit, cut, or_base, limit_size, start_base, start_limit, at_least, settled, start, maxima, limited, for_auto, base_asked, limit_with, limit_asked, with_item, with_item_at, singles, missing}
-use Rattle.lines.specs.Rows.{limit_number}
+use Rattle.kinds.specs.Kinds.{amount_number}
 use Rattle.lines.specs.Fits.{LineFits, LinesFit, MeasuredFits, MeasuredFit}
 
-line-fits : (t : Track) (base : ℕ) (limit : Limit) (growable : Bool) → TrackFits t → base ≤ most_size → limit_number limit ≤ most_size → LineFits (line t base limit growable)
+line-fits : (t : Track) (base : ℕ) (limit : Limit) (growable : Bool) → TrackFits t → base ≤ most_size → amount_number limit ≤ most_size → LineFits (line t base limit growable)
 line-fits t base limit growable f b m = record { track = f; base = b; limit = m }
 
 -- ---- one line
 
-pub at-least-le : (base k : ℕ) (limit : Limit) → base ≤ k → limit_number limit ≤ k → limit_number (at_least base limit) ≤ k
+pub at-least-le : (base k : ℕ) (limit : Limit) → base ≤ k → amount_number limit ≤ k → amount_number (at_least base limit) ≤ k
 at-least-le base k None b m = m
 at-least-le base k (Some n) b m = omega arith
 
@@ -45,7 +45,7 @@ start-base-le minimum.Auto h = h
 start-base-le minimum.MinContent h = h
 start-base-le minimum.MaxContent h = h
 
-start-limit-le : (m : Maximum) → maximum_number m ≤ most_of m → limit_number (start_limit m) ≤ most_size
+start-limit-le : (m : Maximum) → maximum_number m ≤ most_of m → amount_number (start_limit m) ≤ most_size
 start-limit-le (maximum.Fixed n) h = h
 start-limit-le maximum.Auto h = h
 start-limit-le maximum.MinContent h = h
@@ -56,7 +56,7 @@ start-limit-le (maximum.Fr n) h = zero-le
 pub limit-size-le : (l : Line) → LineFits l → limit_size l ≤ most_size
 limit-size-le l f = go l.limit f.limit
   where
-    go : (m : Limit) → limit_number m ≤ most_size → or_base m l.base ≤ most_size
+    go : (m : Limit) → amount_number m ≤ most_size → or_base m l.base ≤ most_size
     go None h = f.base
     go (Some n) h = h
 
@@ -80,11 +80,11 @@ base-asked-le c n i l minimum.Auto f = for-auto-le c n i (l ∷ []) f
 base-asked-le c n i l minimum.MinContent f = f.contributions kind.MinContent
 base-asked-le c n i l minimum.MaxContent f = f.contributions kind.MaxContent
 
-limit-with-le : (n : ℕ) (limit : Limit) → n ≤ most_size → limit_number limit ≤ most_size → limit_number (limit_with n limit) ≤ most_size
+limit-with-le : (n : ℕ) (limit : Limit) → n ≤ most_size → amount_number limit ≤ most_size → amount_number (limit_with n limit) ≤ most_size
 limit-with-le n None h k = h
 limit-with-le n (Some m) h k = omega arith
 
-limit-asked-le : (n : ℕ) (i : Measured) (limit : Limit) (m : Maximum) → MeasuredFits n i → limit_number limit ≤ most_size → limit_number (limit_asked i limit m) ≤ most_size
+limit-asked-le : (n : ℕ) (i : Measured) (limit : Limit) (m : Maximum) → MeasuredFits n i → amount_number limit ≤ most_size → amount_number (limit_asked i limit m) ≤ most_size
 limit-asked-le n i limit (maximum.Fixed k) f h = h
 limit-asked-le n i limit maximum.Auto f h = limit-with-le (contribution_at i kind.MaxContent) limit (f.contributions kind.MaxContent) h
 limit-asked-le n i limit maximum.MinContent f h = limit-with-le (contribution_at i kind.MinContent) limit (f.contributions kind.MinContent) h

@@ -19,7 +19,7 @@ use Rattle.spanned.specs.Rule.{most_size}
 use Rattle.std.specs.Prelude.{Some, None}
 use Rattle.lines.specs.declared.line.Line.{Line}
 use Rattle.lines.specs.Rule.{Limit, is_none, cut_limit, room_to, limit_size, argument, with_base, with_limit, grown_base, maximise_track, filled_lines, missing, maximise}
-use Rattle.lines.specs.Rows.{limit_number}
+use Rattle.kinds.specs.Kinds.{amount_number}
 use Rattle.lines.specs.Fits.{LineFits, LinesFit}
 use Rattle.lines.proofs.Fits.{limit-size-le}
 
@@ -32,7 +32,7 @@ unfolding missing
 missing-limited ls = image-all (λ (l : Line). is_none l.limit ≡ false) (λ (l : Line). with_limit l (Some (limit_size l))) (λ l. refl) ls
 
 -- the room of a base ends at the limit
-room-le : (dots base g : ℕ) (limit argument : Limit) → is_none limit ≡ false → base ≤ most_size → limit_number limit ≤ most_size
+room-le : (dots base g : ℕ) (limit argument : Limit) → is_none limit ≡ false → base ≤ most_size → amount_number limit ≤ most_size
     → g ≤ cap_in dots (room_to (cut_limit limit argument) base) → base + g ≤ most_size
 room-le dots base g None a e b m h = never refl e
 room-le dots base g (Some n) None e b m h = omega arith

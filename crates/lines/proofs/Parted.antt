@@ -55,10 +55,6 @@ module _ (i : Item) (row : Row) (read : i ≡ item_of row) where
     unfolding in_turn
     part_left lacking = ap (λ (is : List Measured). in_turn f is s) (sym (of_row (complete-none i lacking)))
 
-    pub part-taken : lacks_contribution i ≡ false → (m : Measured) → m ≡ measured_of i → (s' : S) → s' ≡ f m s → s' ≡ in_turn f (complete (item_of row)) s
-    unfolding in_turn
-    part-taken whole m e s' t = t ∙ ap (λ (k : Measured). f k s) e ∙ ap (λ (is : List Measured). in_turn f is s) (sym (of_row (complete-one i whole)))
-
   pub part-fits : lacks_contribution i ≡ false → (m : Measured) → m ≡ measured_of i → (n : ℕ) → MeasuredFit n (complete (item_of row)) → MeasuredFits n m
   unfolding All
   part-fits whole m e n f = rw e (rw (of_row (complete-one i whole)) at f).0

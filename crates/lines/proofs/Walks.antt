@@ -1,32 +1,28 @@
--- Walks that store rows, where what counts is what each row says. `see` is what a row says. Assumes nothing.
+-- Walks over lines, and walks that store them. Assumes nothing.
 use mathlib.Core.Path.{◌≡◌, sym, ap, ◌∙◌}
-use mathlib.Core.List.{List, [], ◌∷◌, ◌++◌, map}
-use Prim.Native.Nat.{ℕ, ◌+◌, ◌≤◌, ◌<◌}
-use lib.ListN.{length, get_or, take, drop, set, length-map, get_or-map}
+use mathlib.Core.List.{List, ◌∷◌, ◌++◌, map}
+use Prim.Native.Nat.{ℕ, ◌+◌, ◌<◌}
+use lib.ListN.{length, get_or, take, drop, set}
 use lib.Seq.{get_or-drop, drop-drop}
 use native.Mathlib.Nat.{add-zero}
-use Rattle.laws.specs.Lists.{map-set}
-use Rattle.laws.specs.Walk.{store_step, store-end, kept}
+use Rattle.laws.specs.Walk.{store_step, kept}
+use Rattle.std.specs.Prelude.{None, false}
+use Rattle.kinds.specs.Kinds.{track}
+use Rattle.kinds.specs.declared.track.Minimum.TheVariants as minimum
+use Rattle.kinds.specs.declared.track.Maximum.TheVariants as maximum
+use Rattle.lines.specs.declared.line.Line.{Line}
+use Rattle.lines.specs.Rule.{line}
 
-module _ {A B : Type 0} (see : A → B) (rows : List A) (i : ℕ) where
-  -- a turn that stores the row v: as `store_step`, of what the rows say
-  pub seen_step : (F G : List B → List B) (v a : A) (w : List B) → i < length rows
-      → F (see (get_or rows i a) ∷ drop (i + 1) (map see rows)) ≡ see v ∷ G (drop (i + 1) (map see rows))
-      → take i (map see rows) ++ F (drop i (map see rows)) ≡ w
-      → take (i + 1) (map see (set rows i v)) ++ G (drop (i + 1) (map see (set rows i v))) ≡ w
-  seen_step F G v a w h e p =
-      rw (map-set see rows i v)
-      (store_step (map see rows) i F G (see v) (see a) w (rw (length-map rows see) h) (rw (get_or-map see rows i a) e) p)
+-- what a goal has for a line past the end of a list
+abbrev pub no_line : Line
+no_line = line (track (minimum.Fixed 0) (maximum.Fixed 0)) 0 None false
 
-  -- a turn that makes of each row what g makes of what it says
-  pub map-step : (g : B → B) (v a : A) (w : List B) → i < length rows → see v ≡ g (see (get_or rows i a))
-      → take i (map see rows) ++ map g (drop i (map see rows)) ≡ w
-      → take (i + 1) (map see (set rows i v)) ++ map g (drop (i + 1) (map see (set rows i v))) ≡ w
-  map-step g v a w h e p = seen_step (map g) (map g) v a w h (ap (λ (b : B). b ∷ map g (drop (i + 1) (map see rows))) (sym e)) p
-
-  -- at the end nothing is left to walk
-  pub seen_end : (F : List B → List B) (w : List B) → length rows ≤ i → F [] ≡ [] → take i (map see rows) ++ F (drop i (map see rows)) ≡ w → map see rows ≡ w
-  seen_end F w h e p = store-end (map see rows) i F w (rw (length-map rows see) h) e p
+module _ {A : Type 0} where
+  -- a turn that makes of each what g makes of it
+  pub map-step : (ls : List A) (i : ℕ) (g : A → A) (v a : A) (w : List A) → i < length ls → v ≡ g (get_or ls i a)
+      → take i ls ++ map g (drop i ls) ≡ w
+      → take (i + 1) (set ls i v) ++ map g (drop (i + 1) (set ls i v)) ≡ w
+  map-step ls i g v a w h e p = store_step ls i (map g) (map g) v a w h (ap (λ (l : A). l ∷ map g (drop (i + 1) ls)) (sym e)) p
 
 -- ---- lists that are the same from the place i on
 

@@ -8,12 +8,12 @@ use Rattle.spanned.specs.Sound.{TrackFits}
 use Rattle.lines.specs.declared.line.Line.{Line}
 use Rattle.lines.specs.declared.measured.Measured.{Measured}
 use Rattle.lines.specs.Rule.{contribution_at}
-use Rattle.lines.specs.Rows.{limit_number}
+use Rattle.kinds.specs.Kinds.{amount_number}
 
 pub record LineFits (l : Line) : Type 0 where
   pub track : TrackFits l.track
   pub base : l.base ≤ most_size
-  pub limit : limit_number l.limit ≤ most_size
+  pub limit : amount_number l.limit ≤ most_size
 
 abbrev pub LinesFit : List Line → Type 0
 LinesFit = All LineFits

@@ -1,7 +1,7 @@
 pub mod ByFactor
 pub mod Rule
 pub mod Fr
-pub mod Rows
+pub mod Lines
 pub mod Parts
 pub mod Fits
 pub mod Chains

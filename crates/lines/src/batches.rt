@@ -1,4 +1,4 @@
-// The items gathered into batches, by number: each a chain from its head on.
+// The items gathered into batches, by number: each a chain from its head on. Heads and nexts are lent beside the items: there is no heap (`chains`).
 ghost use Rattle.std.specs.Prelude.{◌≡◌, [], ◌<◌, length, get_or};
 ghost use Rattle.lines.specs.Chains.{Rising, batches_of};
 

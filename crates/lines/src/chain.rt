@@ -1,5 +1,5 @@
 // The items of a batch in their order, at work: a chain from row to row, where beside each row stands the next of its batch. An item that
-// lacks a contribution takes no part: the chain passes over it.
+// lacks a contribution takes no part: the chain passes over it. The places of the next are lent: there is no heap.
 ghost use Rattle.std.specs.Prelude.{◌≡◌, eqb, length};
 ghost use Rattle.std.specs.Iterator.{YieldsFirst, item_count};
 ghost use Rattle.lines.specs.Chains.{Rising, chained};

@@ -13,6 +13,6 @@ pub use batches::Batches;
 pub use chain::Chain;
 pub use fr::Fr;
 pub use limit::limit_with;
-pub use line::{Line, with_sizes};
+pub use line::Line;
 pub use measured::Measured;
 pub use passes::{bases_to_limits, fill_missing, settle, settled, start};

@@ -1,11 +1,8 @@
-// A track at work: its kinds, its base size and growth limit, and whether the limit is infinitely growable. The working
-// store holds it as a row of eight numbers: the sheet's four, base, limit, limited 0 or 1, growable 0 or 1. Rows, and no slice of `Line`: the searches
-// read base and factor straight off them, and an item's part is cut from them; a slice of structs with enums has not been measured against the speed
-// asked for.
+// A track at work: its kinds, its base size and growth limit, and whether the limit is infinitely growable. That is a mark beside the limit, and no case
+// of it, since the rule's line has both, and a mark may stand beside no limit.
 ghost use Rattle.std.specs.Prelude.{◌≡◌};
-ghost use Rattle.kinds.specs.Kinds.{track_of};
-ghost use Rattle.lines.specs.Rule.{line, argument, limit_size, base_room, start_base, start_limit, start_line};
-ghost use Rattle.lines.specs.Rows.{line_of, room_of};
+ghost use Rattle.rounds.specs.Rooms.{room_in};
+ghost use Rattle.lines.specs.Rule.{number, argument, limit_size, base_room, start_base, start_limit, start_line};
 
 use crate::limit::cut_limit;
 use kinds::{Maximum, Minimum, Track};
@@ -19,14 +16,38 @@ pub struct Line {
 }
 
 impl Line {
-    pub fn of_row(row: [u32; 8]) -> Line
-        ensures { result ≡ line_of row }
+    // What stands in the store of a board before step 1.
+    pub const BLANK: Line = Line {
+        track: Track {
+            minimum: Minimum::Fixed(0),
+            maximum: Maximum::Fixed(0),
+        },
+        base: 0,
+        limit: None,
+        growable: false,
+    };
+
+    // A track before the first item: a fixed minimum is its base, a fixed maximum its limit, which is not below the base.
+    pub(crate) fn start(track: Track) -> Line
+        ensures { result ≡ start_line track }
     {
+        let base = start_base(track.minimum);
+        let limit = start_limit(track.maximum).map(|n| base.max(n));
         Line {
-            track: Track::of_row([row[0], row[1], row[2], row[3]]),
-            base: row[4],
-            limit: (row[6] == 1).then_some(row[5]),
-            growable: row[7] == 1,
+            track,
+            base,
+            limit,
+            growable: false,
+        }
+    }
+
+    // The number of its maximum, a size, an argument, or a factor in thousandths; 0 for one without.
+    pub fn number(self) -> u32
+        ensures { result ≡ number self }
+    {
+        match self.track.maximum {
+            Maximum::Fixed(n) | Maximum::FitContent(n) | Maximum::Fr(n) => n,
+            _ => 0,
         }
     }
 
@@ -49,51 +70,26 @@ impl Line {
 
     // Up to the growth limit, cut to a fit-content argument.
     pub fn base_room(self) -> Option<u32>
-        ensures { room_of result ≡ base_room self }
+        ensures { room_in result ≡ base_room self }
     {
         let most = cut_limit(self.limit, self.argument());
         most.map(|n| n.saturating_sub(self.base))
     }
 }
 
-// The row with another base, limit and mark; the kinds stay.
-pub fn with_sizes(row: [u32; 8], base: u32, limit: Option<u32>, growable: bool) -> [u32; 8]
-    ensures { line_of result ≡ line (line_of row).track base limit growable }
+fn start_base(minimum: Minimum) -> u32
+    ensures { result ≡ start_base minimum }
 {
-    let number = limit.unwrap_or(0);
-    let tag = u32::from(limit.is_some());
-    let mark = u32::from(growable);
-    [row[0], row[1], row[2], row[3], base, number, tag, mark]
-}
-
-// A track's row before the first item: a fixed minimum is its base, a fixed maximum its limit.
-pub(crate) fn start_row(row: [u32; 4]) -> [u32; 8]
-    ensures { line_of result ≡ start_line (track_of row) }
-{
-    let track = Track::of_row(row);
-    let base = start_base(track);
-    let limit = start_limit(track).map(|n| base.max(n));
-    with_sizes(
-        [row[0], row[1], row[2], row[3], 0, 0, 0, 0],
-        base,
-        limit,
-        false,
-    )
-}
-
-fn start_base(track: Track) -> u32
-    ensures { result ≡ start_base track.minimum }
-{
-    match track.minimum {
+    match minimum {
         Minimum::Fixed(n) => n,
         _ => 0,
     }
 }
 
-fn start_limit(track: Track) -> Option<u32>
-    ensures { result ≡ start_limit track.maximum }
+fn start_limit(maximum: Maximum) -> Option<u32>
+    ensures { result ≡ start_limit maximum }
 {
-    match track.maximum {
+    match maximum {
         Maximum::Fixed(n) => Some(n),
         _ => None,
     }

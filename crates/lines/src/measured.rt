@@ -1,5 +1,5 @@
 // An item at work: what it spans, and its three contributions in one row, all of them given. One that lacks a contribution takes no part;
-// refusal 9 has met it before.
+// refusal 9 has met it before. A type of its own beside `Item`, as the rule has it: what takes part is `complete`, and says so by its type.
 ghost use Rattle.std.specs.Prelude.{◌≡◌};
 ghost use Rattle.lines.specs.Rule.{complete, contribution_at};
 ghost use Rattle.lines.specs.Parts.{given};

@@ -3,73 +3,80 @@ ghost use Rattle.std.specs.Prelude.{◌≡◌, map, length, Some};
 ghost use Rattle.kinds.specs.Kinds.{track_of};
 ghost use Rattle.lines.specs.declared.line.Line.{Line};
 ghost use Rattle.lines.specs.Rule.{with_base, with_limit, limit_size, settled, missing, start};
-ghost use Rattle.lines.specs.Rows.{line_of, lines_of, Makes};
+ghost use Rattle.lines.specs.Lines.{Makes};
 
-use crate::line::{Line, start_row, with_sizes};
+use crate::line::Line;
+use kinds::Track;
 
-// Step 1.
-pub fn start(tracks: &[[u32; 4]], lines: &mut [[u32; 8]])
+// Step 1. By index into the tracks: over `zip` what the loop keeps true would be said of what is left of two iterators.
+#[tactic(auto, unfolding(crate::specs::Rule::start))]
+pub fn start(tracks: &[[u32; 4]], lines: &mut [Line])
     requires { length lines.old ≡ length tracks.now }
-    ensures { lines_of lines.new ≡ start (map track_of tracks.now) }
+    ensures { lines.new ≡ start (map track_of tracks.now) }
 {
-    for (i, row) in lines.iter_mut().enumerate() {
-        *row = start_row(tracks[i]);
+    for (i, line) in lines.iter_mut().enumerate() {
+        *line = Line::start(Track::of_row(tracks[i]));
     }
 }
 
 // Every line becomes what `make` makes of it.
-fn remake<F: Fn([u32; 8]) -> [u32; 8]>(lines: &mut [[u32; 8]], make: F)
+fn remake<F: Fn(Line) -> Line>(lines: &mut [Line], make: F)
     requires { F.IsAlwaysCallable make }
-    ensures { (made : Line → Line) → Makes (F.post make) lines.old made → lines_of lines.new ≡ map made (lines_of lines.old) }
+    ensures { (made : Line → Line) → Makes (F.post make) made → lines.new ≡ map made lines.old }
 {
-    for row in lines.iter_mut() {
-        *row = make(*row);
+    for line in lines.iter_mut() {
+        *line = make(*line);
     }
 }
 
 // A limit below base becomes base.
-pub fn settled(row: [u32; 8]) -> [u32; 8]
-    ensures { line_of result ≡ settled (line_of row) }
+pub fn settled(line: Line) -> Line
+    ensures { result ≡ settled line }
 {
-    let line = Line::of_row(row);
-    let limit = line.limit.map(|n| line.base.max(n));
-    with_sizes(row, line.base, limit, line.growable)
+    Line {
+        limit: line.limit.map(|n| line.base.max(n)),
+        ..line
+    }
 }
 
 // Every limit below its base becomes that base.
-pub fn settle(lines: &mut [[u32; 8]])
-    ensures { lines_of lines.new ≡ map settled (lines_of lines.old) }
+pub fn settle(lines: &mut [Line])
+    ensures { lines.new ≡ map settled lines.old }
 {
     remake(lines, settled);
 }
 
 // Step 4: a missing limit becomes base.
 #[tactic(auto, unfolding(crate::specs::Rule::missing))]
-pub fn fill_missing(lines: &mut [[u32; 8]])
-    ensures { lines_of lines.new ≡ missing (lines_of lines.old) }
+pub fn fill_missing(lines: &mut [Line])
+    ensures { lines.new ≡ missing lines.old }
 {
     remake(
         lines,
-        |row|
-            ensures { line_of result ≡ with_limit (line_of row) (Some (limit_size (line_of row))) }
+        |line|
+            ensures { result ≡ with_limit line (Some (limit_size line)) }
         {
-            let line = Line::of_row(row);
-            with_sizes(row, line.base, Some(line.limit_size()), line.growable)
+            Line {
+                limit: Some(line.limit_size()),
+                ..line
+            }
         },
     );
 }
 
 // Every base becomes its limit.
-pub fn bases_to_limits(lines: &mut [[u32; 8]])
-    ensures { lines_of lines.new ≡ map (λ (l : Line). with_base l (limit_size l)) (lines_of lines.old) }
+pub fn bases_to_limits(lines: &mut [Line])
+    ensures { lines.new ≡ map (λ (l : Line). with_base l (limit_size l)) lines.old }
 {
     remake(
         lines,
-        |row|
-            ensures { line_of result ≡ with_base (line_of row) (limit_size (line_of row)) }
+        |line|
+            ensures { result ≡ with_base line (limit_size line) }
         {
-            let line = Line::of_row(row);
-            with_sizes(row, line.limit_size(), line.limit, line.growable)
+            Line {
+                base: line.limit_size(),
+                ..line
+            }
         },
     );
 }

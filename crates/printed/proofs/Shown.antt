@@ -1,19 +1,11 @@
 -- A byte of a name as it is shown, and a name byte by byte. Assumes nothing.
-use mathlib.Core.Path.{◌≡◌, sym, ap, ap₂, ◌∙◌}
-use mathlib.Core.Bool.{Bool, true, false, cond}
+use mathlib.Core.Path.{◌≡◌, sym, ap, ◌∙◌}
 use mathlib.Core.List.{List, [], ◌∷◌, ◌++◌, flat_map, append_assoc, append-nil}
-use Prim.Native.Nat.{ℕ, ◌+◌, ◌/◌, ◌%◌, ◌<◌}
+use Prim.Native.Nat.{ℕ, ◌+◌, ◌<◌}
 use native.Mathlib.Numerals.{add-one}
 use lib.ListN.{length, get_or, take}
 use lib.Seq.{take-suc}
-use Rattle.printed.specs.Rule.{word, is_plain, hex_digit, shown}
-
-pub shown-of-plain : (b : ℕ) → is_plain b ≡ true → b ∷ [] ≡ shown b
-shown-of-plain b e = ap (λ (t : Bool). cond t (b ∷ []) (word "\\x" ++ (hex_digit (b / 16) ∷ hex_digit (b % 16) ∷ []))) (sym e)
-
-pub shown-of-other : (b high low : ℕ) → is_plain b ≡ false → high ≡ hex_digit (b / 16) → low ≡ hex_digit (b % 16) → 92 ∷ 120 ∷ high ∷ low ∷ [] ≡ shown b
-shown-of-other b high low e h l =
-    ap₂ (λ (x y : ℕ). 92 ∷ 120 ∷ x ∷ y ∷ []) h l ∙ ap (λ (t : Bool). cond t (b ∷ []) (word "\\x" ++ (hex_digit (b / 16) ∷ hex_digit (b % 16) ∷ []))) (sym e)
+use Rattle.printed.specs.Rule.{shown}
 
 flat-map-after : (f : ℕ → List ℕ) (xs : List ℕ) (x : ℕ) → flat_map f (xs ++ (x ∷ [])) ≡ flat_map f xs ++ f x
 unfolding flat_map

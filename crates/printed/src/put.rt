@@ -1,4 +1,5 @@
 // Pieces of text put into lent bytes from a place on. Each asks for the room that it may take, and tells the place behind the piece.
+// By hand, and no `write!`: what is put is the rule's text byte for byte, into bytes that are lent.
 // Place and bytes stay two arguments: beside a `&mut` no field of a struct can promise that the place is within them.
 ghost use Rattle.std.specs.Prelude.{◌+◌, ◌≤◌, ◌++◌, ◌∷◌, [], length};
 ghost use Rattle.printed.specs.Rule.{most_digits, most_cell, decimal, signed};

@@ -2,9 +2,10 @@
 -- sheet's rule, and `crates/sheet/specs/Rule.antt` the second: sections, the sheet, the calls. They follow the build paper's section
 -- 'The sheet' and numbers 1 to 6 of its table, in the words for faults of `crates/laws/specs/Faults.antt`, which it hands on. It assumes
 -- nothing of the code and it computes.
-use Rattle.std.specs.Prelude.{ℕ, zero, suc, ◌+◌, ◌*◌, ◌/◌, ◌%◌, cond, List, [], ◌∷◌, ◌++◌, eqb, leb, get_or, length, drop}
+use Rattle.std.specs.Prelude.{ℕ, zero, suc, ◌+◌, ◌*◌, ◌/◌, ◌%◌, cond, List, [], ◌∷◌, ◌++◌, eqb, get_or}
 use Rattle.laws.specs.Lists.{among}
-pub use Rattle.laws.specs.Faults.{Fault, fine, fault, first, unless}
+pub use Rattle.laws.specs.Faults.{Fault, fine, fault, first, unless, enough}
+pub use Rattle.laws.specs.Put.{onto}
 pub use Rattle.kinds.specs.Kinds.{Row}
 
 -- ---- Numbers, little-endian
@@ -132,13 +133,3 @@ row_fault (mark listed ∷ parts) (n ∷ row) at = first (unless (among listed n
 row_fault (pair ∷ parts) (n ∷ row) at = row_fault parts row (at + 4)
 row_fault (part ∷ parts) [] at = fine
 row_fault [] row at = fine
-
--- ---- What is lent
-
--- 6: fewer places are lent than are wanted.
-abbrev pub enough : (wanted lent : ℕ) → Fault
-enough wanted lent = unless (leb wanted lent) (fault 6 0)
-
--- the first places of what was lent are these, the others keep what they hold
-abbrev pub onto : {A : Type 0} → List A → List A → List A
-onto new lent = new ++ drop (length new) lent

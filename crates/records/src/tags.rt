@@ -74,7 +74,7 @@ impl Use {
     }
 }
 
-// What is wrong with a stretch byte.
+// What is wrong with a stretch byte. Stretch and axis are two functions, since the rule lists the bytes of each by itself.
 pub fn stretch_fault(byte: u32, at: usize) -> Result<(), Refusal>
     ensures { fault_of result ≡ unless (among stretch_bytes byte) (fault 4 at) }
 {

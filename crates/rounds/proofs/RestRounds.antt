@@ -48,10 +48,6 @@ share-pos d xs p o q = mul-pos (le-min (omega arith) (least-pos d xs p)) o
 
 -- w is what a survey finds
 module _ (xs : List ℕ) (d : ℕ) (w : Found) (found : w ≡ found_in d xs) where
-  -- so the shares of all open tracks can be taken off the dots
-  pub found-share-le : (k : ℕ) → k ≡ min (d / w.count) w.least → k * w.count ≤ d
-  found-share-le k p = rw (p, found) (share-le d xs)
-
   pub round-odd : (ys : List ℕ) (n : ℕ) → d / w.count ≡ 0 → ys ≡ take_odd d xs → rest_round (state_of xs d n) ≡ state_of ys 0 (n + 1)
   unfolding rest_round
   round-odd ys n h q = rw (eq-eqb (d / open_rests xs) 0 (rw found at h), q)

@@ -1,3 +1,4 @@
 pub mod Rule
+pub mod Rooms
 pub mod Rests
 pub mod Found

@@ -12,6 +12,7 @@ ghost use Rattle.rounds.specs.Found.{found_in};
 use rests::Found;
 pub use rests::take_odd;
 
+// What the rounds come to. The fill's `Filled` reads alike, but is an answer of the call: `docs/PROMISES.md` names its parts.
 #[derive(Clone, Copy)]
 pub struct Rounds {
     pub left: u32,

@@ -16,6 +16,8 @@ ghost use Rattle.rows.specs.Shapes.{width};
 use records::Refusal;
 use records::numbers::{put_byte, put_four};
 
+// Rows of numbers, and no structs: C lends them so (`torrivask_read_sheet`, `torrivask_write_sheet`), and the promises of `sheet::read` and of
+// `layout::lay_out` name them.
 pub type TrackRow = [u32; 4];
 
 pub type ItemRow = [u32; 7];

@@ -1,6 +1,6 @@
 -- The bytes of a sheet show the faults of its rows, and are as many as its counts say. Assumes nothing.
 use mathlib.Core.Path.{◌≡◌, refl, sym, ap, ◌∙◌}
-use Prim.Native.Nat.{ℕ, zero, suc, ◌+◌, ◌*◌, ◌≤◌, zero-le}
+use Prim.Native.Nat.{ℕ, zero, suc, ◌+◌, ◌*◌, zero-le}
 use native.Mathlib.Nat.{not-suc-le-zero, le_of_suc-le-suc}
 use native.Mathlib.Omega.{arith}
 use mathlib.Core.List.{List, [], ◌∷◌, ◌++◌, append_assoc, append-nil}
@@ -153,11 +153,6 @@ module _ (sheet : Sheet) (shaped : Shaped sheet) where
       )
 
 -- ---- what the writer goes by
-
-pub counts-of-fine : (tracks items : List Row) → content_fault tracks items ≡ fine → (length tracks ≤ most_tracks) × (length items ≤ most_items)
-counts-of-fine tracks items e =
-    let f = fine-both (tracks_fault tracks) _ e in
-    ((le-of-count-fine _ most_tracks tracks_at _ f.0).0, (le-of-count-fine _ most_items (items_after (length tracks)) _ f.1).0)
 
 module _ (space : Space) (tracks items : List Row) (looked : Looked tracks items) where
   pub content-fault : sheet_fault (sheet_bytes (sheet_of space tracks items)) ≡ content_fault tracks items

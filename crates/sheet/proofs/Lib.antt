@@ -19,7 +19,7 @@ pub mod Accepted
 pub mod RoundTrip
 -- few counts, for who lends rows
 pub mod Few
--- the calls that read, case by case; and what an answer of a call says
+-- the call that reads; and what an answer of a call says
 pub mod ReadCall
 pub mod Told
 -- the rule at work on one sheet

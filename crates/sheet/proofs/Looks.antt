@@ -7,7 +7,7 @@ use mathlib.Core.List.{List}
 use lib.Dec.{leb}
 use lib.ListN.{length}
 use borrow.Author.Tests.{leb-true, le-leb}
-use Rattle.laws.specs.Faults.{first-assoc, fine-both, fine-test}
+use Rattle.laws.specs.Faults.{first-assoc, fine-test}
 use Rattle.sheet.specs.Rule.{Part, record_size, row_at, Fault, fine, first, whole_to, row_fault, records_fault}
 
 -- ---- bytes that reach to a place, or do not
@@ -35,6 +35,3 @@ module _ (parts : List Part) (bytes : List ℕ) where
   pub records-none : (place : ℕ) → fine ≡ records_fault parts bytes 0 place
   unfolding records_fault
   records-none place = refl
-
-  pub record-whole : (place : ℕ) → record_fault place ≡ fine → place + record_size parts ≤ length bytes
-  record-whole place e = fine-whole bytes (place + record_size parts) (fine-both (whole_to bytes (place + record_size parts)) _ e).0

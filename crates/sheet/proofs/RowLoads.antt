@@ -20,11 +20,6 @@ module _ (parts : List Part) (bytes : List ℕ) (from count : ℕ) where
     pub whole : place + (count - i) * record_size parts ≤ length bytes
     pub is : take i rows ++ rows_at parts bytes (count - i) place ≡ rows_at parts bytes count from
 
-  pub loading-none : (rows : List Row) → length rows ≡ count → from + count * record_size parts ≤ length bytes → Loading rows from 0
-  loading-none rows l h =
-      let none : count - 0 ≡ count = omega arith in
-      record { long = l; whole = rw none h; is = rw none }
-
   module _ (rows : List Row) (place i : ℕ) (l : Loading rows place i) (more : i < count) where
     left : ℕ
     left = count - (i + 1)
@@ -35,10 +30,6 @@ module _ (parts : List Part) (bytes : List ℕ) (from count : ℕ) where
 
     rest-whole : place + (left * record_size parts + record_size parts) ≤ length bytes
     rest-whole = rw (one_more, suc-mul) at l.whole
-
-    -- the next record is wholly there
-    pub loading-whole : place + record_size parts ≤ length bytes
-    loading-whole = let h = rest-whole in omega arith
 
     pub loading-turn : (row : Row) → row ≡ row_at parts bytes place → Loading (set rows i row) (place + record_size parts) (i + 1)
     unfolding rows_at left

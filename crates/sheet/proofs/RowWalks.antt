@@ -26,9 +26,6 @@ pub record Searched (n : ℕ) (parts : List Part) (rows : List Row) (from i p : 
   pub long : LookedAt n parts (drop i rows) p → LookedAt n parts rows from
 
 module _ (n : ℕ) (parts : List Part) (rows : List Row) (from : ℕ) where
-  pub searched-none : Searched n parts rows from 0 from
-  searched-none = record { same = refl; long = λ l. l }
-
   -- what is told of all the rows
   abbrev pub Told : Fault → Type 0
   Told f = (f ≡ rows_fault parts rows from) × LookedAt n parts rows from

@@ -6,6 +6,8 @@ use mathlib.Core.List.{List, ◌++◌, append_assoc}
 use lib.ListN.{length, length-append}
 use Rattle.laws.specs.Put.{put, put_then, put_front}
 use Rattle.rows.specs.Shapes.{EachLong, width}
+use Rattle.std.proofs.lemmas.List.{map-id}
+use Rattle.rows.proofs.KindRows.{space-fine}
 use Rattle.sheet.specs.Rule.{Row, record_size, space_record, track_record, item_record, two_bytes, four_bytes, row_bytes, tracks_at, sheet_bytes, onto}
 use Rattle.sheet_kinds.specs.Kinds.{space_row}
 use Rattle.sheet.specs.Answer.{sheet_of}
@@ -39,3 +41,6 @@ module _ (space : Space) (tracks items : List Row) where
       let three = put_then 0 tracks_at front (section_bytes track_record tracks) lent zero-le (omega (arith, length_front)) two e₃ in
       let four = put_then 0 (items_after (length tracks)) (front ++ section_bytes track_record tracks) (section_bytes item_record items) lent zero-le (omega (arith, length-to-items long)) three e₄ in
       four ∙ ap (λ (new : List ℕ). put 0 new lent) parts-of-sheet ∙ put_front (sheet_bytes (sheet_of space tracks items)) lent
+
+-- for the check of `put_sheet`
+pub ruleset parts = (put-parts, space-fine, map-id)

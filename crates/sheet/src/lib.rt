@@ -25,6 +25,7 @@ pub fn end(bytes: &[u8]) -> Result<usize, Refusal>
 }
 
 // The same of the sheet that begins at `at`.
+#[tactic(auto, unfolding(crate::specs::Rule::end_from_call))]
 pub fn end_from(bytes: &[u8], at: usize) -> Result<usize, Refusal>
     ensures { end_told result ≡ end_from_call bytes.now at }
 {

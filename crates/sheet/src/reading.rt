@@ -21,6 +21,7 @@ pub struct Contents {
 }
 
 // Reads a sheet into lent rows. A refusal leaves every row as it is; rows past the counts always keep what they hold.
+#[tactic(auto, using(crate::proofs::ReadCall::readable), unfolding(crate::specs::Rule::read_call))]
 pub fn read(
     bytes: &[u8],
     tracks: &mut [TrackRow],
@@ -33,6 +34,7 @@ pub fn read(
 }
 
 // 1 to 5, then 6.
+#[tactic(auto, using(crate::proofs::Accepted::accepted), unfolding(records::specs::Rule::record_size))]
 fn read_fault(bytes: &[u8], tracks: usize, items: usize) -> Result<(), Refusal>
     ensures { fault_of result ≡ first (sheet_fault bytes.now) (enough_rows bytes.now tracks items) }
 {
@@ -71,6 +73,7 @@ fn read_rows<R: RecordRow>(bytes: &[u8], from: usize, rows: &mut [R])
     requires { from + length rows.old * record_size R.parts ≤ length bytes.now }
     ensures { map R.numbers rows.new ≡ rows_at R.parts bytes.now (length rows.old) from }
 {
+    // The place goes along with the rows, as the rule's `rows_at` has it: a product for each row would have to be bounded.
     let mut at = from;
     for row in rows.iter_mut() {
         *row = R::read(bytes, at);

@@ -84,6 +84,7 @@ fn record_fault<R: RecordRow>(bytes: &[u8], at: usize) -> Result<(), Refusal>
 fn records_fault<R: RecordRow>(bytes: &[u8], count: usize, from: usize) -> Result<(), Refusal>
     ensures { fault_of result ≡ records_fault R.parts bytes.now count from }
 {
+    // The place goes along with the rows, as the rule's `rows_at` has it: a product for each row would have to be bounded.
     let mut at = from;
     for _ in 0..count {
         record_fault::<R>(bytes, at)?;
@@ -146,6 +147,7 @@ pub fn counts_fault_from(bytes: &[u8], at: usize) -> Result<(), Refusal>
 }
 
 // What is wrong with a sheet that begins at `at`: 1 and 3 to 5.
+#[tactic(auto, unfolding(crate::specs::Rule::fault_from, records::specs::Rule::record_size))]
 pub fn fault_from(bytes: &[u8], at: usize) -> Result<(), Refusal>
     ensures { fault_of result ≡ fault_from bytes.now at }
 {
@@ -155,6 +157,7 @@ pub fn fault_from(bytes: &[u8], at: usize) -> Result<(), Refusal>
 }
 
 // What is wrong with a sheet by itself: 1 and 3 to 5, then 2.
+#[tactic(auto, unfolding(crate::specs::Rule::sheet_fault))]
 pub(crate) fn sheet_fault(bytes: &[u8]) -> Result<(), Refusal>
     ensures { fault_of result ≡ sheet_fault bytes.now }
 {

@@ -18,6 +18,7 @@ use sheet_kinds::Space;
 
 // Writes a sheet into lent bytes and tells its length. A refusal leaves every byte as it is; bytes past the sheet always keep what
 // they hold.
+#[tactic(auto, using(crate::proofs::WriteCall::cases), unfolding(records::specs::Rule::record_size))]
 pub fn write(
     space: Space,
     tracks: &[TrackRow],
@@ -43,6 +44,7 @@ fn write_fault(tracks: &[TrackRow], items: &[ItemRow], lent: usize) -> Result<()
     )
 }
 
+#[tactic(auto, unfolding(records::specs::Rule::record_size, rows::specs::Shapes::width))]
 fn content_fault(tracks: &[TrackRow], items: &[ItemRow]) -> Result<(), Refusal>
     ensures { (fault_of result ≡ content_fault tracks.now items.now) × Looked tracks.now items.now }
 {
@@ -64,6 +66,7 @@ fn rows_fault<R: RecordRow>(rows: &[R], from: usize) -> Result<(), Refusal>
     requires { from + length rows.now * record_size R.parts ≤ last_place }
     ensures { (fault_of result ≡ rows_fault R.parts (map R.numbers rows.now) from) × LookedAt (width R.parts) R.parts (map R.numbers rows.now) from }
 {
+    // The place goes along with the rows, as the rule's `rows_at` has it: a product for each row would have to be bounded.
     let mut at = from;
     for row in rows {
         row.fault(at)?;
@@ -87,6 +90,7 @@ fn sheet_size(tracks: usize, items: usize) -> usize
     items_after(tracks) + COUNT_SIZE + items * ItemRow::SIZE
 }
 
+#[tactic(auto, using(crate::proofs::SheetPut::parts), unfolding(records::specs::Rule::record_size))]
 fn put_sheet(space: Space, tracks: &[TrackRow], items: &[ItemRow], bytes: &mut [u8])
     requires { Writable tracks.now items.now bytes.old }
     ensures { bytes.new ≡ onto (sheet_bytes (sheet_of space tracks.now items.now)) bytes.old }
@@ -111,6 +115,7 @@ fn put_rows<R: RecordRow>(rows: &[R], bytes: &mut [u8], from: usize)
     requires { (rows_fault R.parts (map R.numbers rows.now) from ≡ fine) × (from + length rows.now * record_size R.parts ≤ length bytes.old) }
     ensures { bytes.new ≡ put from (rows_bytes R.parts (map R.numbers rows.now)) bytes.old }
 {
+    // The place goes along with the rows, as the rule's `rows_at` has it: a product for each row would have to be bounded.
     let mut at = from;
     for row in rows {
         row.put(bytes, at);

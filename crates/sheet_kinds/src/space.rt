@@ -21,7 +21,8 @@ impl Space {
     // The most dots of a space.
     pub const MOST: u32 = Constraint::MOST;
 
-    // The space that a row says; one without fault says no other.
+    // The space that a row says; one without fault says no other. `of_row` and `row`, and no `From`: `docs/PROMISES.md` names them, with the rule's equations.
+    // The stretch mark is a byte of 0 or 1.
     pub fn of_row(row: SpaceRow) -> Space
         ensures { result ≡ space_of row }
     {

@@ -5,7 +5,7 @@ ghost use Rattle.texts.specs.Reading.{Onward};
 use crate::compare;
 use cases::{Stop, Text, read_wanted};
 
-// More than the most tracks and items, so that lists that are too long for the sheet can be tried.
+// More than the most tracks and items, so that lists that are too long for the sheet can be tried. The memory is fixed.
 const MOST_TRACKS: usize = 300;
 
 const MOST_ITEMS: usize = 1100;

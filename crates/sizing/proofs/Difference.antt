@@ -29,10 +29,6 @@ neg-sub a b h = let e : b - a - 1 ≡ b - suc a = omega arith in rw (minus_one (
 pub neg-fits : (a b : ℕ) → a < b → b ≤ a + most_lacking → SFits w32 (negsuc 0 -ℤ pos (b - a - 1))
 neg-fits a b h k = rw (minus_one (b - a - 1)) (record { sfits = omega arith })
 
--- what is behind it is no smaller than zero
-pub behind-fits : (a b : ℕ) → b ≤ a + most_lacking → SFits w32 (pos (b - a - 1))
-behind-fits a b k = record { sfits = omega arith }
-
 pub sub-fits : (a b : ℕ) → a ≤ b + most_free → b ≤ a + most_lacking → SFits w32 (sub_ℕ a b)
 sub-fits a b h k =
     ⊎_elim

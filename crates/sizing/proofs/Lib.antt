@@ -1,7 +1,6 @@
 -- The laws of the sizing. A function's own proof stands in the folder of its name.
 
 -- the store, the sizes, the free space as 32 bits say it
-pub mod Sizes
 pub mod Difference
 -- steps 5 and 7, how far the bases go, and that every free space fits
 pub mod Bases
@@ -10,7 +9,5 @@ pub mod FreeFits
 -- steps 6 and 7, and the whole
 pub mod Finished
 pub mod WholeSizing
--- a part of the store
-pub mod Cut
 -- as many sizes as tracks
 pub mod Counted

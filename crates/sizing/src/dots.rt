@@ -1,9 +1,8 @@
-// Steps 5 and 7: free dots are filled into the bases.
+// Steps 5 and 7: free dots are filled into the bases. The store is lent slice by slice, as in `size`.
 ghost use Rattle.std.specs.Prelude.{◌≡◌, ◌≤◌};
 ghost use Rattle.rounds.specs.Rule.{most_dots};
 ghost use Rattle.spanned.specs.Sound.{ConstraintFits};
 ghost use Rattle.lines.specs.Rule.{filled_lines, maximise, stretched};
-ghost use Rattle.lines.specs.Rows.{lines_of};
 ghost use Rattle.letters.specs.Increases.{NoIncrease};
 ghost use Rattle.letters.specs.Shares.{share_fill};
 ghost use Rattle.sizing.specs.Size.{maximised};
@@ -11,18 +10,18 @@ ghost use Rattle.sizing.specs.Store.{Filling};
 
 use kinds::Constraint;
 use letters::{Share, base_total, beyond, grow_bases, share_out};
-use lines::bases_to_limits;
+use lines::{Line, bases_to_limits};
 
 // Each base grows by what the fill gives it; the rounds come back. No increase is planned before and after.
 fn fill_bases(
     share: Share,
     dots: u32,
-    lines: &mut [[u32; 8]],
+    lines: &mut [Line],
     increases: &mut [u32],
     rests: &mut [u32],
 ) -> u32
     requires { Filling lines.old increases.old rests.old × (dots ≤ most_dots) }
-    ensures { (lines_of lines.new ≡ filled_lines (lines_of lines.old) (share_fill share dots lines.old increases.old))
+    ensures { (lines.new ≡ filled_lines lines.old (share_fill share dots lines.old increases.old))
         × (result ≡ (share_fill share dots lines.old increases.old).rounds)
         × NoIncrease lines.old increases.new }
 {
@@ -34,12 +33,12 @@ fn fill_bases(
 // Step 5. The rounds come back.
 pub(crate) fn maximise(
     constraint: Constraint,
-    lines: &mut [[u32; 8]],
+    lines: &mut [Line],
     increases: &mut [u32],
     rests: &mut [u32],
 ) -> u32
     requires { Filling lines.old increases.old rests.old × ConstraintFits constraint }
-    ensures { (maximised (lines_of lines.new) result ≡ maximise constraint (lines_of lines.old))
+    ensures { (maximised lines.new result ≡ maximise constraint lines.old)
         × NoIncrease lines.old increases.new }
 {
     match constraint {
@@ -59,12 +58,12 @@ pub(crate) fn maximise(
 pub(crate) fn stretch(
     asked: bool,
     expansion: Constraint,
-    lines: &mut [[u32; 8]],
+    lines: &mut [Line],
     increases: &mut [u32],
     rests: &mut [u32],
 )
     requires { Filling lines.old increases.old rests.old × ConstraintFits expansion }
-    ensures { lines_of lines.new ≡ stretched asked expansion (lines_of lines.old) }
+    ensures { lines.new ≡ stretched asked expansion lines.old }
 {
     if !asked {
         return;

@@ -1,8 +1,7 @@
-// Steps 6 and 7, then the sizes and the free space: what is told of a board.
+// Steps 6 and 7, then the sizes and the free space: what is told of a board. The store is lent slice by slice, as in `size`.
 ghost use Rattle.std.specs.Prelude.{◌≡◌, map, ◌≤◌, length};
 ghost use Rattle.rounds.specs.Rule.{most_tracks};
 ghost use Rattle.lines.specs.Rule.{free_of, sizes_of};
-ghost use Rattle.lines.specs.Rows.{lines_of};
 ghost use Rattle.spanned.specs.Sound.{ConstraintFits};
 ghost use Rattle.lines.specs.Fits.{MeasuredFit};
 ghost use Rattle.sizing.specs.Size.{free_told, FreeFits, finished_lines};
@@ -15,9 +14,9 @@ use kinds::Constraint;
 use letters::base_total;
 use lines::{Chain, Line};
 
-pub(crate) fn free_of(expansion: Constraint, lines: &[[u32; 8]]) -> Option<i32>
-    requires { (length lines.now ≤ most_tracks) × ConstraintFits expansion × FreeFits expansion (lines_of lines.now) }
-    ensures { free_told result ≡ free_of expansion (lines_of lines.now) }
+pub(crate) fn free_of(expansion: Constraint, lines: &[Line]) -> Option<i32>
+    requires { (length lines.now ≤ most_tracks) × ConstraintFits expansion × FreeFits expansion lines.now }
+    ensures { free_told result ≡ free_of expansion lines.now }
 {
     match expansion {
         Constraint::Definite(n) => {
@@ -29,12 +28,12 @@ pub(crate) fn free_of(expansion: Constraint, lines: &[[u32; 8]]) -> Option<i32>
 }
 
 // Base and limit of every line.
-pub(crate) fn write_sizes(lines: &[[u32; 8]], sizes: &mut [[u32; 2]])
+pub(crate) fn write_sizes(lines: &[Line], sizes: &mut [[u32; 2]])
     requires { length sizes.old ≡ length lines.now }
-    ensures { sizes.new ≡ map sizes_of (lines_of lines.now) }
+    ensures { sizes.new ≡ map sizes_of lines.now }
 {
     for (i, size) in sizes.iter_mut().enumerate() {
-        let line = Line::of_row(lines[i]);
+        let line = lines[i];
         *size = [line.base, line.limit_size()];
     }
 }
@@ -44,7 +43,7 @@ pub(crate) fn finish(
     expansion: Constraint,
     asked: bool,
     batch: &Chain<'_>,
-    lines: &mut [[u32; 8]],
+    lines: &mut [Line],
     increases: &mut [u32],
     rests: &mut [u32],
     held: &mut [bool],
@@ -53,8 +52,8 @@ pub(crate) fn finish(
     requires { Finishing lines.old increases.old rests.old held.old sizes.old
         × MeasuredFit (length lines.old) batch.now
         × ConstraintFits expansion }
-    ensures { (free_told result ≡ free_of expansion (finished_lines expansion asked batch.now (lines_of lines.old)))
-        × (sizes.new ≡ map sizes_of (finished_lines expansion asked batch.now (lines_of lines.old))) }
+    ensures { (free_told result ≡ free_of expansion (finished_lines expansion asked batch.now lines.old))
+        × (sizes.new ≡ map sizes_of (finished_lines expansion asked batch.now lines.old)) }
 {
     let total = base_total(lines);
     flex(expansion, total, batch, lines, held);

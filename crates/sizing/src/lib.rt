@@ -15,7 +15,8 @@ use content::content;
 use dots::maximise;
 use finish::finish;
 use kinds::Constraint;
-use lines::Chain;
+use letters::Totals;
+use lines::{Chain, Line};
 
 #[derive(Clone, Copy)]
 pub struct Sized {
@@ -35,11 +36,11 @@ pub fn size(
     items: &[[u32; 7]],
     heads: &mut [usize],
     nexts: &mut [usize],
-    lines: &mut [[u32; 8]],
+    lines: &mut [Line],
     increases: &mut [u32],
     gains: &mut [u32],
     rests: &mut [u32],
-    sums: &mut [[u64; 2]],
+    sums: &mut [Totals],
     held: &mut [bool],
     sizes: &mut [[u32; 2]],
 ) -> Sized

@@ -1,6 +1,4 @@
 -- The laws of what is spanned. A function's own proof stands in the folder of its name.
 
--- a test of each of three contributions
-pub mod Three
 -- a look at the rows that are spanned
 pub mod Rows

@@ -1,6 +1,6 @@
 -- The laws of the spans. A function's own proof stands in the folder of its name.
 
--- one row of a store, numbers going up
+-- one line of a list, numbers going up
 pub mod Parts
 -- step 2
 pub mod OneTrack

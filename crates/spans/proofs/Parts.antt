@@ -1,6 +1,6 @@
--- One row of a store and what it says, two lists element by element, and numbers going up. Assumes nothing.
+-- One line of a list, two lists element by element, and numbers going up. Assumes nothing.
 use mathlib.Core.Path.{◌≡◌, refl, ap, ◌∙◌}
-use mathlib.Core.List.{List, [], ◌∷◌, map, zip_with}
+use mathlib.Core.List.{List, [], ◌∷◌, zip_with}
 use Prim.Native.Nat.{ℕ, zero, suc, ◌+◌, ◌<◌}
 use native.Mathlib.Nat.{le_of_suc-le-suc, not-suc-le-zero}
 use native.Mathlib.Omega.{arith}
@@ -8,17 +8,17 @@ use lib.ListN.{length, get_or, take, drop, set}
 use lib.Seq.{drop-cons}
 use Rattle.laws.specs.Lists.{All, change_at, up_from, in_turn}
 
-module _ {A B : Type 0} (f : A → B) where
-  -- one row of them
-  pub map-part-one : (a : ℕ) (xs : List A) (d : A) → a < length xs → map f (take 1 (drop a xs)) ≡ f (get_or xs a d) ∷ []
-  map-part-one a xs d h = rw (drop-cons xs a d h) refl
+module _ {A : Type 0} where
+  -- one line of them
+  pub part-one : (a : ℕ) (xs : List A) (d : A) → a < length xs → take 1 (drop a xs) ≡ get_or xs a d ∷ []
+  part-one a xs d h = rw (drop-cons xs a d h) refl
 
-  -- a store that makes of a row what g makes of what it says
-  pub change-set : (g : B → B) (a : ℕ) (xs : List A) (v d : A) → a < length xs → f v ≡ g (f (get_or xs a d)) → map f (set xs a v) ≡ change_at a g (map f xs)
+  -- a store that makes of a line what g makes of it
+  pub change-set : (g : A → A) (a : ℕ) (xs : List A) (v d : A) → a < length xs → v ≡ g (get_or xs a d) → set xs a v ≡ change_at a g xs
   unfolding change_at
   change-set g a [] v d h e = absurd (not-suc-le-zero h)
-  change-set g zero (x ∷ xs) v d h e = ap (◌∷ map f xs) e
-  change-set g (suc a) (x ∷ xs) v d h e = ap (f x ∷◌) (change-set g a xs v d (le_of_suc-le-suc h) e)
+  change-set g zero (x ∷ xs) v d h e = ap (◌∷ xs) e
+  change-set g (suc a) (x ∷ xs) v d h e = ap (x ∷◌) (change-set g a xs v d (le_of_suc-le-suc h) e)
 
 -- what holds of each of two lists put together, from what held of the first
 module _ {A B C : Type 0} (f : A → B → C) (P : A → Type 0) (Q : C → Type 0) where

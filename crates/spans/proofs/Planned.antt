@@ -5,24 +5,23 @@ use mathlib.Core.List.{List, [], ◌∷◌, ◌++◌, map}
 use Prim.Native.Nat.{ℕ, zero, suc, ◌+◌, ◌-◌, ◌≤◌, min}
 use native.Mathlib.Nat.{add-sub_cancel_left}
 use native.Mathlib.Omega.{arith}
-use lib.ListN.{length, get_or, take, drop, replicate, length-take, length-drop, length-map}
+use lib.ListN.{length, get_or, take, drop, replicate, length-take, length-drop}
 use lib.Seq.{take_at}
 use Rattle.laws.specs.Lists.{some, larger, larger_from}
 use Rattle.laws.specs.Sums.{sum}
 use Rattle.rounds.specs.Rule.{most_tracks, most_dots}
-use Rattle.kinds.specs.Kinds.{Row}
 use Rattle.kinds.specs.declared.constraint.Constraint.{Constraint}
 use Rattle.lines.specs.declared.line.Line.{Line}
 use Rattle.lines.specs.declared.measured.Measured.{Measured}
 use Rattle.lines.specs.Rule.{spanned, extra_of, gains_by, increased_by}
-use Rattle.lines.specs.Rows.{line_of, lines_of}
 use Rattle.lines.specs.Fits.{LinesFit, MeasuredFits}
-use Rattle.lines.proofs.Slices.{slice-fits-rows, lines-of-spanned}
+use Rattle.lines.proofs.Slices.{slice_fits, slice-is-spanned}
 use Rattle.letters.specs.declared.letter.Letter.{Letter}
 use Rattle.letters.specs.Letters.{letter_of}
 use Rattle.letters.specs.declared.batch.Batch.{Batch}
 use Rattle.letters.specs.Batches.{affected_in, shares_in}
-use Rattle.letters.specs.Totals.{tallied, total_in}
+use Rattle.letters.specs.declared.totals.Totals.{Totals}
+use Rattle.letters.specs.Totals.{totals, tallied, total_in}
 use Rattle.letters.proofs.Tallies.{length-tally, total-rises, total-between-is}
 use Rattle.letters.proofs.Batches.{shares-in-none, shares-in-unaffected}
 use Rattle.letters.proofs.Keeps.{length-shares-in, extra-le}
@@ -36,37 +35,37 @@ module _ (a n : ℕ) where
       go : min n (length (drop a xs)) ≡ n
       go = let d = length-drop a xs in omega arith
 
-  pub between-few : (rows : List Row) → a + n ≤ length rows → length rows ≤ most_tracks → length (take (a + n - a) (drop a rows)) ≤ most_tracks
-  between-few rows h f = let l = length-between rows h in omega arith
+  pub between-few : (lines : List Line) → a + n ≤ length lines → length lines ≤ most_tracks → length (take (a + n - a) (drop a lines)) ≤ most_tracks
+  between-few lines h f = let l = length-between lines h in omega arith
 
-  pub between-fits : (rows : List Row) → LinesFit (lines_of rows) → LinesFit (lines_of (take (a + n - a) (drop a rows)))
-  between-fits rows f = slice-fits-rows a (a + n - a) rows f
+  pub between-fits : (lines : List Line) → LinesFit lines → LinesFit (take (a + n - a) (drop a lines))
+  between-fits lines f = slice_fits a (a + n - a) lines f
 
--- the rows of the part that an item spans
-abbrev pub on_rows : List Row → Measured → List Row
-on_rows rows i = take (i.start + i.span - i.start) (drop i.start rows)
+-- the part that an item spans
+abbrev pub on_lines : List Line → Measured → List Line
+on_lines lines i = take (i.start + i.span - i.start) (drop i.start lines)
 
-module _ (rows : List Row) (i : Measured) (letter : Letter) (c : Constraint) where
-  pub extra-few : (dots n : ℕ) → MeasuredFits n i → dots ≡ extra_of (letter_of letter) c i (lines_of (on_rows rows i)) → dots ≤ most_dots
-  extra-few dots n f e = let l = extra-le letter c i (lines_of (on_rows rows i)) f in omega arith
+module _ (lines : List Line) (i : Measured) (letter : Letter) (c : Constraint) where
+  pub extra-few : (dots n : ℕ) → MeasuredFits n i → dots ≡ extra_of (letter_of letter) c i (on_lines lines i) → dots ≤ most_dots
+  extra-few dots n f e = let l = extra-le letter c i (on_lines lines i) f in omega arith
 
-module _ (kind : Batch) (rows : List Row) (i : Measured) (letter : Letter) (c : Constraint) where
-  shares-long : (dots : ℕ) (ys : List ℕ) → i.start + i.span ≤ length rows → ys ≡ shares_in kind (letter_of letter) dots (lines_of (on_rows rows i)) → length ys ≡ i.span
-  shares-long dots ys h s = ap length s ∙ length-shares-in kind (letter_of letter) dots (lines_of (on_rows rows i)) ∙ length-map (on_rows rows i) line_of ∙ length-between i.start i.span rows h
+module _ (kind : Batch) (lines : List Line) (i : Measured) (letter : Letter) (c : Constraint) where
+  shares-long : (dots : ℕ) (ys : List ℕ) → i.start + i.span ≤ length lines → ys ≡ shares_in kind (letter_of letter) dots (on_lines lines i) → length ys ≡ i.span
+  shares-long dots ys h s = ap length s ∙ length-shares-in kind (letter_of letter) dots (on_lines lines i) ∙ length-between i.start i.span lines h
 
   -- the scratch keeps the gains at its front
-  pub gains-long : (dots : ℕ) (ys gains : List ℕ) → i.start + i.span ≤ length rows → ys ≡ shares_in kind (letter_of letter) dots (lines_of (on_rows rows i))
+  pub gains-long : (dots : ℕ) (ys gains : List ℕ) → i.start + i.span ≤ length lines → ys ≡ shares_in kind (letter_of letter) dots (on_lines lines i)
       → length (take i.span (ys ++ drop i.span gains)) ≡ i.span
   gains-long dots ys gains h s = let long = shares-long dots ys h s in ap length (take_at ys (drop i.span gains) i.span long) ∙ long
 
-  pub laid-over : (gains increases ys p : List ℕ) (dots : ℕ) → i.start + i.span ≤ length rows
-      → dots ≡ extra_of (letter_of letter) c i (lines_of (on_rows rows i)) → ys ≡ shares_in kind (letter_of letter) dots (lines_of (on_rows rows i))
+  pub laid-over : (gains increases ys p : List ℕ) (dots : ℕ) → i.start + i.span ≤ length lines
+      → dots ≡ extra_of (letter_of letter) c i (on_lines lines i) → ys ≡ shares_in kind (letter_of letter) dots (on_lines lines i)
       → p ≡ larger (take i.span (ys ++ drop i.span gains)) (take (i.start + i.span - i.start) (drop i.start increases))
-      → take i.start increases ++ (p ++ drop (i.start + i.span - i.start) (drop i.start increases)) ≡ increased_by (shares_in kind) (letter_of letter) c (lines_of rows) i increases
+      → take i.start increases ++ (p ++ drop (i.start + i.span - i.start) (drop i.start increases)) ≡ increased_by (shares_in kind) (letter_of letter) c lines i increases
   unfolding gains_by
   laid-over gains increases ys p dots h e s l =
-      let g : ys ≡ gains_by (shares_in kind) (letter_of letter) c i (spanned i (lines_of rows)) =
-      s ∙ ap (λ (d : ℕ). shares_in kind (letter_of letter) d (lines_of (on_rows rows i))) e ∙ ap (λ (on : List Line). shares_in kind (letter_of letter) (extra_of (letter_of letter) c i on) on) (lines-of-spanned i rows) in
+      let g : ys ≡ gains_by (shares_in kind) (letter_of letter) c i (spanned i lines) =
+      s ∙ ap (λ (d : ℕ). shares_in kind (letter_of letter) d (on_lines lines i)) e ∙ ap (λ (on : List Line). shares_in kind (letter_of letter) (extra_of (letter_of letter) c i on) on) (slice-is-spanned i lines) in
       let long = shares-long dots ys h s in
       let q : p ≡ larger ys (take i.span (drop i.start increases)) =
       l ∙ ap (λ (k : ℕ). larger (take i.span (ys ++ drop i.span gains)) (take k (drop i.start increases))) (add-sub_cancel_left i.start i.span)
@@ -78,21 +77,18 @@ module _ (kind : Batch) (rows : List Row) (i : Measured) (letter : Letter) (c : 
 
 -- ---- the spanned sizes, as the difference of two totals
 
-pub sums-long : (rows sums : List Row) → sums ≡ tallied (lines_of rows) → length sums ≡ length rows + 1
-sums-long rows sums are = ap length are ∙ length-tally 0 0 (lines_of rows) ∙ ap (◌+ 1) (length-map rows line_of)
+pub sums-long : (lines : List Line) (sums : List Totals) → sums ≡ tallied lines → length sums ≡ length lines + 1
+sums-long lines sums are = ap length are ∙ length-tally (totals 0 0) lines
 
-module _ (rows : List Row) (i : Measured) (letter : Letter) (sums : List Row) (are : sums ≡ tallied (lines_of rows)) (h : i.start + i.span ≤ length rows) where
-  within-lines : i.start + i.span ≤ length (lines_of rows)
-  within-lines = let e = length-map rows line_of in omega arith
+module _ (lines : List Line) (i : Measured) (letter : Letter) (d : Totals) (sums : List Totals) (are : sums ≡ tallied lines) (h : i.start + i.span ≤ length lines) where
+  pub spanned-rises : total_in letter (get_or sums i.start d) ≤ total_in letter (get_or sums (i.start + i.span) d)
+  spanned-rises = total-rises letter i.start i.span d sums lines are h
 
-  pub spanned-rises : total_in letter (get_or sums i.start []) ≤ total_in letter (get_or sums (i.start + i.span) [])
-  spanned-rises = total-rises letter i.start i.span sums (lines_of rows) are within-lines
-
-  pub spanned-total : (total : ℕ) → total ≡ total_in letter (get_or sums (i.start + i.span) []) - total_in letter (get_or sums i.start [])
-      → total ≡ sum (map (letter_of letter).present (lines_of (on_rows rows i)))
+  pub spanned-total : (total : ℕ) → total ≡ total_in letter (get_or sums (i.start + i.span) d) - total_in letter (get_or sums i.start d)
+      → total ≡ sum (map (letter_of letter).present (on_lines lines i))
   spanned-total total t =
-      total-between-is letter i.start i.span sums (lines_of rows) are within-lines total t
-      ∙ ap (λ (on : List Line). sum (map (letter_of letter).present on)) (sym (lines-of-spanned i rows))
+      total-between-is letter i.start i.span d sums lines are h total t
+      ∙ ap (λ (on : List Line). sum (map (letter_of letter).present on)) (sym (slice-is-spanned i lines))
 
 -- ---- an item that gives nothing
 
@@ -108,20 +104,20 @@ larger-from-zeros zero n ps = larger-zeros n ps
 larger-from-zeros (suc k) n [] = refl
 larger-from-zeros (suc k) n (p ∷ ps) = ap (p ∷◌) (larger-from-zeros k n ps)
 
-module _ (kind : Batch) (rows : List Row) (i : Measured) (letter : Letter) (c : Constraint) (increases : List ℕ) where
-  gives_nothing : shares_in kind (letter_of letter) (extra_of (letter_of letter) c i (lines_of (on_rows rows i))) (lines_of (on_rows rows i)) ≡ replicate (length (lines_of (on_rows rows i))) 0
-      → increases ≡ increased_by (shares_in kind) (letter_of letter) c (lines_of rows) i increases
+module _ (kind : Batch) (lines : List Line) (i : Measured) (letter : Letter) (c : Constraint) (increases : List ℕ) where
+  gives_nothing : shares_in kind (letter_of letter) (extra_of (letter_of letter) c i (on_lines lines i)) (on_lines lines i) ≡ replicate (length (on_lines lines i)) 0
+      → increases ≡ increased_by (shares_in kind) (letter_of letter) c lines i increases
   unfolding gains_by
   gives_nothing n =
-      sym (larger-from-zeros i.start (length (lines_of (on_rows rows i))) increases)
+      sym (larger-from-zeros i.start (length (on_lines lines i)) increases)
       ∙ ap (λ (gs : List ℕ). larger_from i.start gs increases) (sym n)
-      ∙ ap (λ (on : List Line). larger_from i.start (shares_in kind (letter_of letter) (extra_of (letter_of letter) c i on) on) increases) (lines-of-spanned i rows)
+      ∙ ap (λ (on : List Line). larger_from i.start (shares_in kind (letter_of letter) (extra_of (letter_of letter) c i on) on) increases) (slice-is-spanned i lines)
 
-  pub asks_nothing : (dots : ℕ) → dots ≡ extra_of (letter_of letter) c i (lines_of (on_rows rows i)) → dots ≡ 0
-      → increases ≡ increased_by (shares_in kind) (letter_of letter) c (lines_of rows) i increases
+  pub asks_nothing : (dots : ℕ) → dots ≡ extra_of (letter_of letter) c i (on_lines lines i) → dots ≡ 0
+      → increases ≡ increased_by (shares_in kind) (letter_of letter) c lines i increases
   asks_nothing dots e z =
-      gives_nothing (ap (λ (d : ℕ). shares_in kind (letter_of letter) d (lines_of (on_rows rows i))) (sym e ∙ z) ∙ shares-in-none kind (letter_of letter) (lines_of (on_rows rows i)))
+      gives_nothing (ap (λ (d : ℕ). shares_in kind (letter_of letter) d (on_lines lines i)) (sym e ∙ z) ∙ shares-in-none kind (letter_of letter) (on_lines lines i))
 
-  pub affects-nothing : {b : Bool} → b ≡ some (affected_in kind (letter_of letter)) (lines_of (on_rows rows i)) → b ≡ false
-      → increases ≡ increased_by (shares_in kind) (letter_of letter) c (lines_of rows) i increases
-  affects-nothing e f = gives_nothing (shares-in-unaffected kind (letter_of letter) _ (lines_of (on_rows rows i)) (sym e ∙ f))
+  pub affects-nothing : {b : Bool} → b ≡ some (affected_in kind (letter_of letter)) (on_lines lines i) → b ≡ false
+      → increases ≡ increased_by (shares_in kind) (letter_of letter) c lines i increases
+  affects-nothing e f = gives_nothing (shares-in-unaffected kind (letter_of letter) _ (on_lines lines i) (sym e ∙ f))

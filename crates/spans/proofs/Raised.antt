@@ -3,60 +3,59 @@ use mathlib.Core.Path.{◌≡◌, refl, sym, ap, ◌∙◌, subst}
 use mathlib.Core.Bool.{Bool, true, false, true≢false}
 use mathlib.Core.List.{List, [], ◌∷◌, zip_with}
 use Prim.Native.Nat.{ℕ, ◌+◌, ◌≤◌, ◌<◌}
-use lib.ListN.{length, get_or, replicate, length-map}
+use lib.ListN.{length, get_or, replicate}
 use Rattle.laws.specs.Lists.{in_turn}
-use Rattle.kinds.specs.Kinds.{Row}
 use Rattle.kinds.specs.declared.constraint.Constraint.{Constraint}
 use Rattle.kinds.specs.declared.constraint.Constraint.TheVariants.{Definite, MinContent, MaxContent}
 use Rattle.lines.specs.declared.line.Line.{Line}
 use Rattle.lines.specs.declared.measured.Measured.{Measured}
 use Rattle.lines.specs.Rule.{increased_by, increases, raise, batched}
-use Rattle.lines.specs.Rows.{line_of, lines_of}
 use Rattle.lines.specs.Fits.{LinesFit, MeasuredFit}
 use Rattle.letters.specs.declared.letter.Letter.{Letter}
 use Rattle.letters.specs.Letters.{letter_of, most}
 use Rattle.letters.specs.declared.batch.Batch.{Batch}
 use Rattle.letters.specs.declared.batch.Batch.TheVariants.{OfSpan, Last}
 use Rattle.letters.specs.Batches.{shares_in, letters_in, batched_in}
+use Rattle.letters.specs.declared.totals.Totals.{Totals}
 use Rattle.letters.specs.Totals.{tallied}
 use Rattle.lines.proofs.Increases.{length-increases}
-use Rattle.letters.proofs.Keeps.{increases-fit-rows, raise-fits}
+use Rattle.letters.proofs.Keeps.{increases-applicable, raise-fits}
 use Rattle.letters.proofs.Shared.{zeros-as, zeros-of-lines}
 use native.Mathlib.Omega.{arith}
 use borrow.Author.Tests.{eqb-true}
 use lib.Dec.{eqb}
 use Rattle.spans.specs.Work.{Working, BatchesOn, letter_runs, letter_step, all_steps}
 
-module _ (kind : Batch) (letter : Letter) (c : Constraint) (batch : List Measured) (rows : List Row) (start planned : List ℕ)
-    (none : start ≡ replicate (length rows) 0) (told : planned ≡ in_turn (increased_by (shares_in kind) (letter_of letter) c (lines_of rows)) batch start) where
-  planned-is : planned ≡ increases (shares_in kind) (letter_of letter) c batch (lines_of rows)
+module _ (kind : Batch) (letter : Letter) (c : Constraint) (batch : List Measured) (lines : List Line) (start planned : List ℕ)
+    (none : start ≡ replicate (length lines) 0) (told : planned ≡ in_turn (increased_by (shares_in kind) (letter_of letter) c lines) batch start) where
+  planned-is : planned ≡ increases (shares_in kind) (letter_of letter) c batch lines
   unfolding increases
   planned-is =
       told
-      ∙ ap (in_turn (increased_by (shares_in kind) (letter_of letter) c (lines_of rows)) batch) (zeros-of-lines rows (length rows) start none refl)
+      ∙ ap (in_turn (increased_by (shares_in kind) (letter_of letter) c lines) batch) (zeros-of-lines lines (length lines) start none refl)
 
-  pub length-planned : length planned ≡ length rows
-  length-planned = ap length planned-is ∙ length-increases (shares_in kind) (letter_of letter) c batch (lines_of rows) ∙ length-map rows line_of
+  pub length-planned : length planned ≡ length lines
+  length-planned = ap length planned-is ∙ length-increases (shares_in kind) (letter_of letter) c batch lines
 
-  module _ (n : ℕ) (fits : LinesFit (lines_of rows)) (items : MeasuredFit n batch) where
+  module _ (n : ℕ) (fits : LinesFit lines) (items : MeasuredFit n batch) where
     -- what the letter's end asks
-    pub planned-fit : (i : ℕ) → i < length rows → (letter_of letter).present (line_of (get_or rows i [])) + get_or planned i 0 ≤ most
-    planned-fit i h = rw planned-is (increases-fit-rows kind letter c n batch rows fits items i h)
+    pub planned-fit : (i : ℕ) (d : Line) → i < length lines → (letter_of letter).present (get_or lines i d) + get_or planned i 0 ≤ most
+    planned-fit i d h = rw planned-is (increases-applicable kind letter c n batch lines fits items i d h)
 
-    pub raised_is : (ls : List Line) → ls ≡ zip_with (letter_of letter).grown (lines_of rows) planned
-        → (ls ≡ raise (shares_in kind) c batch (letter_of letter) (lines_of rows)) × LinesFit ls
+    pub raised_is : (ls : List Line) → ls ≡ zip_with (letter_of letter).grown lines planned
+        → (ls ≡ raise (shares_in kind) c batch (letter_of letter) lines) × LinesFit ls
     unfolding raise
     raised_is ls e =
-        let r : ls ≡ raise (shares_in kind) c batch (letter_of letter) (lines_of rows) = e ∙ ap (zip_with (letter_of letter).grown (lines_of rows)) planned-is in
-        (r, subst LinesFit (sym r) (raise-fits kind letter c n batch (lines_of rows) fits items))
+        let r : ls ≡ raise (shares_in kind) c batch (letter_of letter) lines = e ∙ ap (zip_with (letter_of letter).grown lines) planned-is in
+        (r, subst LinesFit (sym r) (raise-fits kind letter c n batch lines fits items))
 
   -- where nothing was planned, lines that stay without an increase stay
-  pub not-raised : planned ≡ start → zip_with (letter_of letter).grown (lines_of rows) (replicate (length (lines_of rows)) 0) ≡ lines_of rows
-      → lines_of rows ≡ raise (shares_in kind) c batch (letter_of letter) (lines_of rows)
+  pub not-raised : planned ≡ start → zip_with (letter_of letter).grown lines (replicate (length lines) 0) ≡ lines
+      → lines ≡ raise (shares_in kind) c batch (letter_of letter) lines
   unfolding raise
   not-raised same stay =
       sym stay
-      ∙ ap (zip_with (letter_of letter).grown (lines_of rows)) (sym (zeros-of-lines rows (length rows) start none refl) ∙ sym same ∙ planned-is)
+      ∙ ap (zip_with (letter_of letter).grown lines) (sym (zeros-of-lines lines (length lines) start none refl) ∙ sym same ∙ planned-is)
 
 -- ---- letter by letter
 
@@ -95,9 +94,9 @@ batch-of-none kind c (i ∷ is) ls e = let n = eqb-true (length (i ∷ is)) 0 e 
 
 -- ---- the working store between letters
 
-pub working-after : {lines lines' sums sums' : List Row} {increases increases' gains gains' rests rests' : List ℕ} → Working lines increases gains rests sums
-    → length lines' ≡ length lines → length gains' ≡ length gains → length rests' ≡ length rests → LinesFit (lines_of lines') → increases' ≡ replicate (length lines) 0
-    → sums' ≡ tallied (lines_of lines') → Working lines' increases' gains' rests' sums'
+pub working-after : {lines lines' : List Line} {sums sums' : List Totals} {increases increases' gains gains' rests rests' : List ℕ} → Working lines increases gains rests sums
+    → length lines' ≡ length lines → length gains' ≡ length gains → length rests' ≡ length rests → LinesFit (lines') → increases' ≡ replicate (length lines) 0
+    → sums' ≡ tallied (lines') → Working lines' increases' gains' rests' sums'
 working-after {lines} {lines'} w l g r f z t =
     let few = w.few in
     record {

@@ -1,14 +1,13 @@
 -- The working store of the steps on spans, what a letter's plan leaves in it, and one batch as the code goes about it. Assumes nothing.
 use Rattle.std.specs.Prelude.{◌≡◌, ℕ, ◌-◌, ◌<◌, ◌≤◌, Bool, true, false, cond, List, [], ◌∷◌, length, get_or, Some, None}
 use Rattle.rounds.specs.Rule.{most_tracks}
-use Rattle.kinds.specs.Kinds.{Row}
 use Rattle.kinds.specs.declared.constraint.Constraint.{Constraint}
 use Rattle.kinds.specs.declared.constraint.Constraint.TheVariants.{Definite, MinContent, MaxContent}
 use Rattle.laws.specs.Lists.{All, up_from, in_turn}
 use Rattle.lines.specs.declared.line.Line.{Line}
+use Rattle.letters.specs.declared.totals.Totals.{Totals}
 use Rattle.lines.specs.declared.measured.Measured.{Measured}
 use Rattle.lines.specs.Rule.{Limit, increased_by, raise}
-use Rattle.lines.specs.Rows.{lines_of}
 use Rattle.lines.specs.Fits.{LinesFit, MeasuredFit}
 use Rattle.lines.specs.Chains.{batches}
 use Rattle.letters.specs.declared.letter.Letter.{Letter}
@@ -21,27 +20,27 @@ use Rattle.letters.specs.Increases.{NoIncrease}
 use Rattle.letters.specs.Totals.{tallied}
 
 -- while a letter is planned: the lines fit, beside each are an increase and scratch, and the sums are the lines' totals
-pub record Planning (lines : List Row) (increases gains rests : List ℕ) (sums : List Row) : Type 0 where
+pub record Planning (lines : List Line) (increases gains rests : List ℕ) (sums : List Totals) : Type 0 where
   pub few : length lines ≤ most_tracks
-  pub fit : LinesFit (lines_of lines)
+  pub fit : LinesFit lines
   pub increases-long : length increases ≡ length lines
   pub gains-long : length gains ≡ length lines
   pub rests-long : length rests ≡ length lines
-  pub totals : sums ≡ tallied (lines_of lines)
+  pub totals : sums ≡ tallied lines
 
 -- what a plan leaves: what the items of a batch give is laid over the increases, which are as before where no item gives anything
-pub record Planned (kind : Batch) (letter : Letter) (c : Constraint) (lines : List Row) (batch : List Measured) (before after : List ℕ) (given : Bool) : Type 0 where
-  pub laid : after ≡ in_turn (increased_by (shares_in kind) (letter_of letter) c (lines_of lines)) batch before
+pub record Planned (kind : Batch) (letter : Letter) (c : Constraint) (lines : List Line) (batch : List Measured) (before after : List ℕ) (given : Bool) : Type 0 where
+  pub laid : after ≡ in_turn (increased_by (shares_in kind) (letter_of letter) c lines) batch before
   pub nothing : given ≡ false → after ≡ before
 
 -- between letters: the same, and no increase is planned
-pub record Working (lines : List Row) (increases gains rests : List ℕ) (sums : List Row) : Type 0 where
+pub record Working (lines : List Line) (increases gains rests : List ℕ) (sums : List Totals) : Type 0 where
   pub few : length lines ≤ most_tracks
-  pub fit : LinesFit (lines_of lines)
+  pub fit : LinesFit lines
   pub none : NoIncrease lines increases
   pub gains-long : length gains ≡ length lines
   pub rests-long : length rests ≡ length lines
-  pub totals : sums ≡ tallied (lines_of lines)
+  pub totals : sums ≡ tallied lines
 
 -- ---- Lines at rest, as they are between batches: no limit is below its base, none is infinitely growable
 
@@ -95,5 +94,5 @@ pub record BatchesOn (n : ℕ) (bs : List (List Measured)) : Type 0 where
   pub fit : (k : ℕ) → 0 < k → k < batches n → MeasuredFit n (get_or bs k [])
 
 -- in rising span
-abbrev pub longer_lines : Constraint → List (List Measured) → List Row → List Line
-longer_lines c bs lines = in_turn (λ (k : ℕ). batched_in OfSpan c (get_or bs k [])) (up_from 2 (length lines - 1)) (lines_of lines)
+abbrev pub longer_lines : Constraint → List (List Measured) → List Line → List Line
+longer_lines c bs lines = in_turn (λ (k : ℕ). batched_in OfSpan c (get_or bs k [])) (up_from 2 (length lines - 1)) lines

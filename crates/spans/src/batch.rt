@@ -4,15 +4,14 @@
 // a struct of them would be made anew for each letter.
 ghost use Rattle.std.specs.Prelude.{◌≡◌, false, [], ◌∷◌, length};
 ghost use Rattle.lines.specs.Rule.{raise};
-ghost use Rattle.lines.specs.Rows.{lines_of};
 ghost use Rattle.lines.specs.Fits.{MeasuredFits, MeasuredFit};
 ghost use Rattle.letters.specs.Letters.{letter_of};
 ghost use Rattle.letters.specs.Batches.{shares_in, batched_in};
 ghost use Rattle.spans.specs.Work.{Planning, Planned, Working, Calm, BatchesOn, letter_runs, letter_step, letter_steps, all_steps, longer_lines};
 
 use kinds::Constraint;
-use letters::{Batch, Letter, Span, affects_some, apply, lay_over, share_in, tally};
-use lines::{Batches, Chain, Measured};
+use letters::{Batch, Letter, Span, Totals, affects_some, apply, lay_over, share_in, tally};
+use lines::{Batches, Chain, Line, Measured};
 
 // What one item gives each line that it spans is laid over the increases. Gains and rests are scratch, the sums are the lines'
 // totals. Whether anything was laid over comes back: an item that asks nothing, or of no affected line, gives nothing.
@@ -21,11 +20,11 @@ fn plan_item(
     letter: Letter,
     constraint: Constraint,
     item: Measured,
-    lines: &[[u32; 8]],
+    lines: &[Line],
     increases: &mut [u32],
     gains: &mut [u32],
     rests: &mut [u32],
-    sums: &[[u64; 2]],
+    sums: &[Totals],
 ) -> bool
     requires { Planning lines.now increases.old gains.old rests.old sums.now × MeasuredFits (length lines.now) item }
     ensures { Planned kind letter constraint lines.now (item ∷ []) increases.old increases.new result }
@@ -53,11 +52,11 @@ fn plan_batch(
     letter: Letter,
     constraint: Constraint,
     batch: &Chain<'_>,
-    lines: &[[u32; 8]],
+    lines: &[Line],
     increases: &mut [u32],
     gains: &mut [u32],
     rests: &mut [u32],
-    sums: &[[u64; 2]],
+    sums: &[Totals],
 ) -> bool
     requires { Planning lines.now increases.old gains.old rests.old sums.now × MeasuredFit (length lines.now) batch.now }
     ensures { Planned kind letter constraint lines.now batch.now increases.old increases.new result }
@@ -81,18 +80,18 @@ fn raise(
     constraint: Constraint,
     moved: bool,
     batch: &Chain<'_>,
-    lines: &mut [[u32; 8]],
+    lines: &mut [Line],
     increases: &mut [u32],
     gains: &mut [u32],
     rests: &mut [u32],
-    sums: &mut [[u64; 2]],
+    sums: &mut [Totals],
 ) -> bool
     requires { Working lines.old increases.old gains.old rests.old sums.old
         × MeasuredFit (length lines.old) batch.now
-        × (moved ≡ false → Calm (lines_of lines.old)) }
-    ensures { (lines_of lines.new ≡ raise (shares_in kind) constraint batch.now (letter_of letter) (lines_of lines.old))
+        × (moved ≡ false → Calm lines.old) }
+    ensures { (lines.new ≡ raise (shares_in kind) constraint batch.now (letter_of letter) lines.old)
         × Working lines.new increases.new gains.new rests.new sums.new
-        × (result ≡ false → Calm (lines_of lines.new)) }
+        × (result ≡ false → Calm lines.new) }
 {
     let planned = plan_batch(
         kind, letter, constraint, batch, lines, increases, gains, rests, sums,
@@ -124,18 +123,18 @@ fn raise_where_run(
     constraint: Constraint,
     moved: bool,
     batch: &Chain<'_>,
-    lines: &mut [[u32; 8]],
+    lines: &mut [Line],
     increases: &mut [u32],
     gains: &mut [u32],
     rests: &mut [u32],
-    sums: &mut [[u64; 2]],
+    sums: &mut [Totals],
 ) -> bool
     requires { Working lines.old increases.old gains.old rests.old sums.old
         × MeasuredFit (length lines.old) batch.now
-        × (moved ≡ false → Calm (lines_of lines.old)) }
-    ensures { (lines_of lines.new ≡ letter_step kind constraint batch.now letter (lines_of lines.old))
+        × (moved ≡ false → Calm lines.old) }
+    ensures { (lines.new ≡ letter_step kind constraint batch.now letter lines.old)
         × Working lines.new increases.new gains.new rests.new sums.new
-        × (result ≡ false → Calm (lines_of lines.new)) }
+        × (result ≡ false → Calm lines.new) }
 {
     if !letter_runs(kind, letter, constraint) {
         return moved;
@@ -151,16 +150,16 @@ fn raise_letters(
     letters: &[Letter],
     constraint: Constraint,
     batch: &Chain<'_>,
-    lines: &mut [[u32; 8]],
+    lines: &mut [Line],
     increases: &mut [u32],
     gains: &mut [u32],
     rests: &mut [u32],
-    sums: &mut [[u64; 2]],
+    sums: &mut [Totals],
 )
     requires { Working lines.old increases.old gains.old rests.old sums.old
         × MeasuredFit (length lines.old) batch.now
-        × Calm (lines_of lines.old) }
-    ensures { (lines_of lines.new ≡ letter_steps kind constraint batch.now letters.now (lines_of lines.old))
+        × Calm lines.old }
+    ensures { (lines.new ≡ letter_steps kind constraint batch.now letters.now lines.old)
         × Working lines.new increases.new gains.new rests.new sums.new }
 {
     let mut moved = false;
@@ -175,16 +174,16 @@ fn raise_all(
     kind: Batch,
     constraint: Constraint,
     batch: &Chain<'_>,
-    lines: &mut [[u32; 8]],
+    lines: &mut [Line],
     increases: &mut [u32],
     gains: &mut [u32],
     rests: &mut [u32],
-    sums: &mut [[u64; 2]],
+    sums: &mut [Totals],
 )
     requires { Working lines.old increases.old gains.old rests.old sums.old
         × MeasuredFit (length lines.old) batch.now
-        × Calm (lines_of lines.old) }
-    ensures { (lines_of lines.new ≡ all_steps kind constraint batch.now (lines_of lines.old))
+        × Calm lines.old }
+    ensures { (lines.new ≡ all_steps kind constraint batch.now lines.old)
         × Working lines.new increases.new gains.new rests.new sums.new }
 {
     let bases = [Letter::A, Letter::B, Letter::C, Letter::D];
@@ -203,18 +202,18 @@ pub fn batched(
     kind: Batch,
     constraint: Constraint,
     batch: &Chain<'_>,
-    lines: &mut [[u32; 8]],
+    lines: &mut [Line],
     increases: &mut [u32],
     gains: &mut [u32],
     rests: &mut [u32],
-    sums: &mut [[u64; 2]],
+    sums: &mut [Totals],
 )
     requires { Working lines.old increases.old gains.old rests.old sums.old
         × MeasuredFit (length lines.old) batch.now
-        × Calm (lines_of lines.old) }
-    ensures { (lines_of lines.new ≡ batched_in kind constraint batch.now (lines_of lines.old))
+        × Calm lines.old }
+    ensures { (lines.new ≡ batched_in kind constraint batch.now lines.old)
         × Working lines.new increases.new gains.new rests.new sums.new
-        × Calm (lines_of lines.new) }
+        × Calm lines.new }
 {
     if batch.is_empty() {
         return;
@@ -228,18 +227,18 @@ pub fn batched(
 pub fn longer(
     constraint: Constraint,
     batches: &Batches<'_>,
-    lines: &mut [[u32; 8]],
+    lines: &mut [Line],
     increases: &mut [u32],
     gains: &mut [u32],
     rests: &mut [u32],
-    sums: &mut [[u64; 2]],
+    sums: &mut [Totals],
 )
     requires { Working lines.old increases.old gains.old rests.old sums.old
         × BatchesOn (length lines.old) batches.now
-        × Calm (lines_of lines.old) }
-    ensures { (lines_of lines.new ≡ longer_lines constraint batches.now lines.old)
+        × Calm lines.old }
+    ensures { (lines.new ≡ longer_lines constraint batches.now lines.old)
         × Working lines.new increases.new gains.new rests.new sums.new
-        × Calm (lines_of lines.new) }
+        × Calm lines.new }
 {
     for k in 2..=lines.len() {
         batched(

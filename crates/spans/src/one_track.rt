@@ -2,17 +2,16 @@
 ghost use Rattle.std.specs.Prelude.{◌≡◌, [], ◌∷◌, ◌≤◌, length};
 ghost use Rattle.laws.specs.Lists.{in_turn};
 ghost use Rattle.lines.specs.Rule.{base_asked, limit_asked, with_item_at, singles};
-ghost use Rattle.lines.specs.Rows.{lines_of};
 ghost use Rattle.lines.specs.Fits.{LinesFit, MeasuredFits, MeasuredFit};
 ghost use Rattle.rounds.specs.Rule.{most_tracks};
 
 use kinds::{Constraint, ContributionKind, Maximum, Minimum};
 use letters::Span;
-use lines::{Chain, Line, Measured, limit_with, settle, with_sizes};
+use lines::{Chain, Line, Measured, limit_with, settle};
 
 // What an item asks of the base; `own` is the one line of the item's track.
-fn base_asked(constraint: Constraint, item: Measured, line: Line, own: &[[u32; 8]]) -> u32
-    requires { (length own.now ≤ most_tracks) × LinesFit (lines_of own.now) × (lines_of own.now ≡ line ∷ []) }
+fn base_asked(constraint: Constraint, item: Measured, line: Line, own: &[Line]) -> u32
+    requires { (length own.now ≤ most_tracks) × LinesFit own.now × (own.now ≡ line ∷ []) }
     ensures { result ≡ base_asked constraint item line line.track.minimum }
 {
     match line.track.minimum {
@@ -39,33 +38,35 @@ fn limit_asked(item: Measured, line: Line) -> Option<u32>
     }
 }
 
-fn with_item(constraint: Constraint, item: Measured, lines: &mut [[u32; 8]])
-    requires { LinesFit (lines_of lines.old) × MeasuredFits (length lines.old) item }
-    ensures { (lines_of lines.new ≡ with_item_at constraint item (lines_of lines.old))
-        × LinesFit (lines_of lines.new) }
+fn with_item(constraint: Constraint, item: Measured, lines: &mut [Line])
+    requires { LinesFit lines.old × MeasuredFits (length lines.old) item }
+    ensures { (lines.new ≡ with_item_at constraint item lines.old)
+        × LinesFit lines.new }
 {
     let t = item.start as usize;
-    let row = lines[t];
-    let line = Line::of_row(row);
+    let line = lines[t];
     let asked = base_asked(constraint, item, line, &lines[t..t + 1]);
-    let limit = limit_asked(item, line);
-    lines[t] = with_sizes(row, line.base.max(asked), limit, line.growable);
+    lines[t] = Line {
+        base: line.base.max(asked),
+        limit: limit_asked(item, line),
+        ..line
+    };
 }
 
-fn take_singles(constraint: Constraint, batch: &Chain<'_>, lines: &mut [[u32; 8]])
-    requires { LinesFit (lines_of lines.old) × MeasuredFit (length lines.old) batch.now }
-    ensures { (lines_of lines.new ≡ in_turn (with_item_at constraint) batch.now (lines_of lines.old))
-        × LinesFit (lines_of lines.new) }
+fn take_singles(constraint: Constraint, batch: &Chain<'_>, lines: &mut [Line])
+    requires { LinesFit lines.old × MeasuredFit (length lines.old) batch.now }
+    ensures { (lines.new ≡ in_turn (with_item_at constraint) batch.now lines.old)
+        × LinesFit lines.new }
 {
     for item in batch.walk() {
         with_item(constraint, item, lines);
     }
 }
 
-pub fn singles(constraint: Constraint, batch: &Chain<'_>, lines: &mut [[u32; 8]])
-    requires { LinesFit (lines_of lines.old) × MeasuredFit (length lines.old) batch.now }
-    ensures { (lines_of lines.new ≡ singles constraint batch.now (lines_of lines.old))
-        × LinesFit (lines_of lines.new) }
+pub fn singles(constraint: Constraint, batch: &Chain<'_>, lines: &mut [Line])
+    requires { LinesFit lines.old × MeasuredFit (length lines.old) batch.now }
+    ensures { (lines.new ≡ singles constraint batch.now lines.old)
+        × LinesFit lines.new }
 {
     take_singles(constraint, batch, lines);
     settle(lines);

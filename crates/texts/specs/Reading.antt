@@ -19,7 +19,7 @@ MovesOn old new = (new.bytes ≡ old.bytes) × (old.at ≤ new.at)
 
 -- reading moves on, and stops at a fault further on, if at all
 abbrev pub Onward : {A : Type 0} → Text → Result A Stop → Text → Type 0
-Onward old result new = (new.bytes ≡ old.bytes) × (old.at ≤ new.at) × StopsAhead old result
+Onward old result new = MovesOn old new × StopsAhead old result
 
 -- each call that reads an entry or a case moves on
 abbrev pub AllOnward : {A : Type 0} → (MutBor Text → Result A Stop → MutBor Text → Type 0) → Type 0

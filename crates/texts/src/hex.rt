@@ -4,6 +4,7 @@ ghost use Rattle.std.specs.Prelude.{◌≤◌, ◌<◌, length, IfOk, IfSome};
 use crate::fault::{Fault, Stop};
 use crate::text::Text;
 
+// A digit is 0 to 9 or a capital: the library's `to_digit` takes small letters too.
 fn digit(byte: u8) -> Option<u8>
     ensures { IfSome result (λ n. n < 16) }
 {

@@ -5,13 +5,11 @@ use crate::fault::{Fault, Stop};
 use crate::runs::Run;
 use crate::text::Text;
 
-// The number that the digits say, if a u32 holds it. The low four bits of a digit are its value.
+// The number that the digits say, if a u32 holds it. The low four bits of a digit are its value. The library's `parse` takes a sign too, and text alone.
 fn decimal(digits: &[u8]) -> Option<u32> {
-    let mut value: u32 = 0;
-    for digit in digits {
-        value = value.checked_mul(10)?.checked_add(u32::from(*digit & 15))?;
-    }
-    Some(value)
+    digits.iter().try_fold(0u32, |value, digit| {
+        value.checked_mul(10)?.checked_add(u32::from(*digit & 15))
+    })
 }
 
 impl Text<'_> {

@@ -1,10 +1,6 @@
 -- `board`: a small store where the sheet says few, else a store for any sheet. Assumes nothing.
-use mathlib.Core.Path.{sym, ◌∙◌}
-use Rattle.board.proofs.ReadBoard.{small-rows, large-rows}
+use Rattle.board.proofs.ReadBoard.{large-rows}
 use Rattle.board.proofs.board.Goals as goal
-
-pub board_in-requires-clause-rows : goal.board_in-requires-clause-rows
-board_in-requires-clause-rows c = λ ts is lt li. small-rows c.args.bytes.now ts is (sym c.says_few.ensures ∙ c.if-says_few.true) lt li
 
 pub board_in-requires-2-clause-rows : goal.board_in-requires-2-clause-rows
 board_in-requires-2-clause-rows c = λ ts is lt li. large-rows c.args.bytes.now ts is lt li

@@ -7,7 +7,6 @@ use lib.ListN.{length, length-map}
 use Rattle.kinds.specs.Kinds.{track_of, item_of}
 use Rattle.lines.specs.declared.measured.Measured.{Measured}
 use Rattle.lines.specs.Rule.{singles}
-use Rattle.lines.specs.Rows.{lines_of}
 use Rattle.lines.specs.Fits.{LinesFit}
 use Rattle.lines.proofs.Fits.{start_fits}
 use Rattle.chains.proofs.Batches.{gathered-batches}
@@ -27,4 +26,4 @@ pub returns : goal.returns
 returns c =
     let ts = map track_of c.args.tracks.now in
     let long = length-map c.args.tracks.now track_of in
-    (prepared c.args.constraint ts c.args.items.now _ _ (items-fit-as (map item_of c.args.items.now) long c.requires.0.items-fit) (search rules) c.gather.ensures _ _ c.start.ensures (c.singles.ensures.0 ∙ ap (λ (is : List Measured). singles c.args.constraint is (lines_of c.start.new.lines)) c.new.ensures), c.singles.ensures.1, c.gather.ensures, c.tally.ensures)
+    (prepared c.args.constraint ts c.args.items.now _ _ (items-fit-as (map item_of c.args.items.now) long c.requires.0.items-fit) (search rules) c.gather.ensures _ _ c.start.ensures (c.singles.ensures.0 ∙ ap (λ (is : List Measured). singles c.args.constraint is c.start.new.lines) c.new.ensures), c.singles.ensures.1, c.gather.ensures, c.tally.ensures)

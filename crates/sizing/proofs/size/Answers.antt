@@ -7,7 +7,6 @@ use native.Mathlib.Omega.{arith}
 use lib.ListN.{length, length-map}
 use Rattle.kinds.specs.Kinds.{track_of, item_of}
 use Rattle.lines.specs.Rule.{measured_items}
-use Rattle.lines.specs.Rows.{lines_of}
 use Rattle.lines.specs.Chains.{fr_batch, batch_at}
 use Rattle.letters.proofs.Shared.{zeros-as}
 use Rattle.chains.proofs.Batches.{gathered-batches, gathered-last}
@@ -21,7 +20,7 @@ maximise-rounds-requires c =
     let same : length c.content.new.lines ≡ length c.args.lines.now = search rules in
     let given : ConstraintFits c.args.constraint = c.requires.0.constraint-fits in
     let expanded : ConstraintFits c.args.expansion = c.requires.0.expansion-fits in
-    (record { few = omega arith; bases-fit = bases-fit (lines_of c.content.new.lines) c.content.ensures.1; none = zeros-as {m = length c.args.lines.now} {n = length c.content.new.lines} c.content.ensures.3 (sym same); rests-long = search rules }, search rules)
+    (record { few = omega arith; bases-fit = bases-fit c.content.new.lines c.content.ensures.1; none = zeros-as {m = length c.args.lines.now} {n = length c.content.new.lines} c.content.ensures.3 (sym same); rests-long = search rules }, search rules)
 
 pub finish-free-requires : goal.finish-free-requires
 finish-free-requires c =
@@ -33,7 +32,7 @@ finish-free-requires c =
     let batches = gathered-batches ts c.args.items.now _ _ c.requires.0.sound.items (search rules) c.content.ensures.2 in (
       record {
         few = omega arith;
-        fit = maximised-fit c.args.constraint ts (measured_items ts (map item_of c.args.items.now)) (lines_of c.content.new.lines) (lines_of c.maximise-rounds.new.lines) _ c.content.ensures.0 c.content.ensures.1 c.maximise-rounds.ensures.0;
+        fit = maximised-fit c.args.constraint ts (measured_items ts (map item_of c.args.items.now)) c.content.new.lines c.maximise-rounds.new.lines _ c.content.ensures.0 c.content.ensures.1 c.maximise-rounds.ensures.0;
         none = zeros-as {m = length c.content.new.lines} {n = length c.maximise-rounds.new.lines} c.maximise-rounds.ensures.1 (sym same2);
         rests-long = search rules;
         held-long = c.requires.1.held-long ∙ sym c.requires.1.of-content.lines_long ∙ sym same ∙ sym same2;
@@ -50,5 +49,5 @@ returns c =
     let same : length c.content.new.lines ≡ length c.args.lines.now = search rules in
     let is_last : c.fr_batch.result ≡ fr_batch (length ts) = c.fr_batch.ensures ∙ ap fr_batch (sym long) in
     let batch = c.new-batch.ensures ∙ ap (batch_at c.args.items.now c.content.new.heads c.content.new.nexts) is_last ∙ gathered-last ts c.args.items.now _ _ c.requires.0.sound.items (search rules) c.content.ensures.2 in
-    sized c.args.constraint c.args.expansion c.args.asked ts (map item_of c.args.items.now) (lines_of c.content.new.lines) (lines_of c.maximise-rounds.new.lines) c.new-batch.result c.finish-free.new.sizes c.finish-free.result c.maximise-rounds.result
+    sized c.args.constraint c.args.expansion c.args.asked ts (map item_of c.args.items.now) c.content.new.lines c.maximise-rounds.new.lines c.new-batch.result c.finish-free.new.sizes c.finish-free.result c.maximise-rounds.result
     c.content.ensures.0 c.maximise-rounds.ensures.0 batch c.finish-free.ensures.0 c.finish-free.ensures.1

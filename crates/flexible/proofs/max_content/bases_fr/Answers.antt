@@ -4,13 +4,13 @@ use Rattle.lines.specs.Rule.{bases_fr}
 use Rattle.flexible.proofs.Lines.{bases-step, bases-end}
 use Rattle.flexible.proofs.max_content.bases_fr.Goals as goal
 
-pub loop-row-init : goal.loop-row-init
+pub loop-line-init : goal.loop-line-init
 unfolding bases_fr
-loop-row-init c = refl
+loop-line-init c = refl
 
-pub loop-row-preserved : goal.loop-row-preserved
-loop-row-preserved c =
-    bases-step c.args.lines.now c.loop-row.row-index c.loop-row.fr _ c.line_fr-fr.result c.loop-row-test.true c.line_fr-fr.ensures c.loop-row.invariant
+pub loop-line-preserved : goal.loop-line-preserved
+loop-line-preserved c =
+    bases-step c.args.lines.now c.loop-line.line-index c.loop-line.fr _ _ c.line_fr-fr.result c.loop-line-test.true c.line_fr-fr.ensures c.loop-line.invariant
 
 pub returns : goal.returns
-returns c = bases-end c.args.lines.now c.loop-row.row-index c.loop-row.fr _ c.loop-row-test.false c.loop-row.invariant
+returns c = bases-end c.args.lines.now c.loop-line.line-index c.loop-line.fr _ c.loop-line-test.false c.loop-line.invariant

@@ -2,9 +2,8 @@
 use mathlib.Core.Path.{◌≡◌}
 use mathlib.Core.List.{◌++◌}
 use lib.ListN.{take, drop}
-use Rattle.lines.specs.Rows.{lines_of}
 use Rattle.flexible.specs.Flexes.{held_first}
 use Rattle.flexible.proofs.search.hold_first.Given as goal
 
 abbrev pub invariant-loop-i : goal.invariant-loop-i
-invariant-loop-i l = (take l.i l.held ++ held_first (lines_of (drop l.i l.lines)) ≡ held_first (lines_of l.lines))
+invariant-loop-i l = (take l.i l.held ++ held_first (drop l.i l.lines) ≡ held_first l.lines)

@@ -4,7 +4,6 @@ use mathlib.Core.Path.{sym, ◌∙◌}
 use Prim.Native.Nat.{◌+◌, ◌-◌}
 use native.Mathlib.Omega.{arith}
 use lib.ListN.{length}
-use Rattle.lines.specs.Rows.{lines_of}
 use Rattle.flexible.specs.Flexes.{flexes}
 use Rattle.flexible.proofs.Turns.{search-start, search-again, search-done, search-out}
 use Rattle.flexible.proofs.search.search_over.Goals as goal
@@ -14,7 +13,7 @@ loop-init c = (search rules, search-start c.args.space c.args.lines.now _ (lengt
 
 pub returns-then-not-more : goal.returns-then-not-more
 returns-then-not-more c =
-    search-done c.args.space (flexes (lines_of c.args.lines.now) c.loop.held) c.fr_now-fr.result _ c.fr_now-fr.ensures (length c.args.lines.now - c.loop.counter)
+    search-done c.args.space (flexes c.args.lines.now c.loop.held) c.fr_now-fr.result _ c.fr_now-fr.ensures (length c.args.lines.now - c.loop.counter)
     (sym c.hold_short-more.ensures.0 ∙ c.if-not-more.true) c.loop.invariant.1
 
 pub loop-preserved : goal.loop-preserved
@@ -25,4 +24,4 @@ loop-preserved c = (
 )
 
 pub returns : goal.returns
-returns c = search-out c.args.space (flexes (lines_of c.args.lines.now) c.loop.held) c.fr_now.result _ c.fr_now.ensures (length c.args.lines.now - c.loop.counter) (omega arith) c.loop.invariant.1
+returns c = search-out c.args.space (flexes c.args.lines.now c.loop.held) c.fr_now.result _ c.fr_now.ensures (length c.args.lines.now - c.loop.counter) (omega arith) c.loop.invariant.1

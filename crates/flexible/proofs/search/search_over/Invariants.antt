@@ -4,9 +4,8 @@ use Prim.Native.Nat.{◌-◌}
 use lib.ListN.{length}
 use Rattle.lines.specs.Fr as fr-rule
 use Rattle.lines.specs.Rule.{search_over}
-use Rattle.lines.specs.Rows.{lines_of}
 use Rattle.flexible.specs.Flexes.{flexes}
 use Rattle.flexible.proofs.search.search_over.Given as goal
 
 abbrev pub invariant-loop : goal.invariant-loop
-invariant-loop l = (length l.held ≡ length l.lines) × (fr-rule.search (l.end - l.counter) l.space (flexes (lines_of l.lines) l.held) ≡ search_over l.space (lines_of l.lines))
+invariant-loop l = (length l.held ≡ length l.lines) × (fr-rule.search (l.end - l.counter) l.space (flexes l.lines l.held) ≡ search_over l.space l.lines)

@@ -12,11 +12,11 @@ use Rattle.letters.proofs.by_factor.load_factors.Goals as goal
 pub loop-i-preserved : goal.loop-i-preserved
 loop-i-preserved c =
     let from = factors_from c.args.letter c.args.lines.now in
-    let turn = factors-step c.args.letter c.args.lines.now c.loop-i.i _ (search rules) c.line_factor-factor.ensures in (
+    let turn = factors-step c.args.letter c.args.lines.now c.loop-i.i _ _ (search rules) c.line_factor-factor.ensures in (
       store_step c.loop-i.gains c.loop-i.i (λ (_ : List ℕ). from c.loop-i.i) (λ (_ : List ℕ). from (c.loop-i.i + 1)) _ 0 _ (search rules) turn c.loop-i.invariant.0,
       store_step c.loop-i.rests c.loop-i.i (λ (_ : List ℕ). from c.loop-i.i) (λ (_ : List ℕ). from (c.loop-i.i + 1)) _ 0 _ (search rules) turn c.loop-i.invariant.1,
       search rules,
-      total-step c.args.lines.now c.loop-i.i (line_factor c.args.letter) c.loop-i.total _ _ (search rules) c.line_factor-factor.ensures c.loop-i.invariant.3,
+      total-step c.args.lines.now c.loop-i.i _ (line_factor c.args.letter) c.loop-i.total _ _ (search rules) c.line_factor-factor.ensures c.loop-i.invariant.3,
     )
 
 pub returns : goal.returns

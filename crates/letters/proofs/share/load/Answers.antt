@@ -1,11 +1,8 @@
 -- `load` writes the caps, front to back: those written, and those of the tracks still to come, are all. Assumes nothing.
 use borrow.Author.Rules.{rules}
-use mathlib.Core.Path.{ap, ◌∙◌}
 use mathlib.Core.List.{List}
 use Prim.Native.Nat.{ℕ, ◌+◌}
 use Rattle.laws.specs.Walk.{store_step, store-end}
-use Rattle.rounds.specs.Rests.{cap_of}
-use Rattle.lines.specs.declared.line.Line.{Line}
 use Rattle.letters.specs.Shares.{track_in}
 use Rattle.letters.proofs.ShareSteps.{caps_from, caps-step, caps-end}
 use Rattle.letters.proofs.share.load.Goals as goal
@@ -13,9 +10,8 @@ use Rattle.letters.proofs.share.load.Goals as goal
 pub loop-i-preserved : goal.loop-i-preserved
 loop-i-preserved c =
     let from = caps_from (track_in c.args.share) c.args.dots c.args.lines.now in
-    let one = c.cap.ensures ∙ ap (λ (l : Line). cap_of c.args.dots (track_in c.args.share l)) c.of_row.ensures in
     store_step c.loop-i.rests c.loop-i.i (λ (_ : List ℕ). from c.loop-i.i) (λ (_ : List ℕ). from (c.loop-i.i + 1)) _ 0 _ (search rules)
-    (caps-step (track_in c.args.share) c.args.dots c.args.lines.now c.loop-i.i _ (search rules) one) c.loop-i.invariant
+    (caps-step (track_in c.args.share) c.args.dots c.args.lines.now c.loop-i.i _ _ (search rules) c.cap.ensures) c.loop-i.invariant
 
 pub returns : goal.returns
 returns c =

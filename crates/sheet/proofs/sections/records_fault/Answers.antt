@@ -1,18 +1,13 @@
 -- `records_fault` is what is wrong with so many records: it goes on while there is none. Assumes nothing.
 use Rattle.std.proofs.Common.{◌≡◌, ◌+◌, ◌-◌, ◌<◌, refl, sym, ◌∙◌, arith}
 use Rattle.records.proofs.Looks.{found-first, next-of-fine}
-use Rattle.sheet.proofs.Looks.{records-first, records-none, record-whole}
+use Rattle.sheet.proofs.Looks.{records-first, records-none}
 use Rattle.sheet.proofs.sections.records_fault.Goals as goal
 
 pub returns-in_err-record_fault : goal.returns-in_err-record_fault
 returns-in_err-record_fault g c =
     let more : 0 < c.args.count - c.loop.counter = omega arith in
     found-first _ _ c.in_err-record_fault.ensures c.from_residual.ensures.1 _ ∙ sym (records-first g.R.RecordRow.parts c.args.bytes.now _ c.loop.at more) ∙ c.loop.invariant
-
-pub overflow_add-at : goal.overflow_add-at
-overflow_add-at g c =
-    let whole = record-whole g.R.RecordRow.parts c.args.bytes.now c.loop.at (sym c.in_ok-record_fault.ensures) in
-    omega (arith, g.met.R.RecordRow.size_is, whole)
 
 pub loop-preserved : goal.loop-preserved
 loop-preserved g c =

@@ -1,8 +1,7 @@
 -- `finish` lets the fr tracks grow, stretches, and tells what the lines are then. Assumes nothing.
 use borrow.Author.Rules.{rules}
 use native.Mathlib.Omega.{arith}
-use lib.ListN.{length, length-map}
-use Rattle.lines.specs.Rows.{line_of, lines_of}
+use lib.ListN.{length}
 use Rattle.sizing.proofs.Finished.{flexed-fits, finished, finished-free-fits}
 use Rattle.sizing.proofs.finish.finish.Goals as goal
 
@@ -11,7 +10,7 @@ stretch-requires c =
     let batch = c.args.batch.now in (
       record {
         few = search rules;
-        bases-fit = flexed-fits c.args.expansion (length c.args.lines.now) batch (lines_of c.args.lines.now) _ c.flex.ensures (rw (length-map c.args.lines.now line_of) c.requires.0.few) c.requires.0.fit c.requires.2 c.requires.1;
+        bases-fit = flexed-fits c.args.expansion (length c.args.lines.now) batch c.args.lines.now _ c.flex.ensures c.requires.0.few c.requires.0.fit c.requires.2 c.requires.1;
         none = rw c.lines-1.given c.requires.0.none;
         rests-long = omega (arith, c.requires.0.rests-long);
       },
@@ -21,8 +20,8 @@ stretch-requires c =
 pub free_of-requires : goal.free_of-requires
 free_of-requires c =
     let batch = c.args.batch.now in
-    let ends = finished c.args.expansion c.args.asked batch (lines_of c.args.lines.now) _ _ c.flex.ensures c.stretch.ensures in (
+    let ends = finished c.args.expansion c.args.asked batch c.args.lines.now _ _ c.flex.ensures c.stretch.ensures in (
       search rules,
       c.requires.2,
-      finished-free-fits c.args.expansion c.args.asked batch (lines_of c.args.lines.now) _ ends c.requires.0.fit (rw (length-map c.args.lines.now line_of) c.requires.0.few) c.requires.2,
+      finished-free-fits c.args.expansion c.args.asked batch c.args.lines.now _ ends c.requires.0.fit c.requires.0.few c.requires.2,
     )

@@ -5,7 +5,6 @@ use Prim.Native.Nat.{ℕ, suc, ◌+◌, ◌-◌, ◌≤◌}
 use native.Mathlib.Omega.{arith}
 use lib.ListN.{length, get_or}
 use Rattle.lines.specs.declared.measured.Measured.{Measured}
-use Rattle.lines.specs.Rows.{lines_of}
 use Rattle.letters.specs.declared.batch.Batch.TheVariants.{OfSpan}
 use Rattle.letters.specs.Batches.{batched_in}
 use Rattle.spans.proofs.Parts.{up_turn, up-end}
@@ -17,13 +16,13 @@ loop-k-preserved c =
     let n : length c.args.lines.now + 1 - c.loop-k.k ≡ suc (length c.args.lines.now + 1 - (c.loop-k.k + 1)) = omega (arith, high) in
     record {
       working = c.batched.ensures.1;
-      left = up_turn (λ (j : ℕ). batched_in OfSpan c.args.constraint (get_or c.args.batches.now j [])) c.loop-k.k (length c.args.lines.now + 1 - c.loop-k.k) (length c.args.lines.now + 1 - (c.loop-k.k + 1)) (lines_of c.loop-k.lines) _ _ n c.loop-k.invariant.left (c.batched.ensures.0 ∙ ap (λ (is : List Measured). batched_in OfSpan c.args.constraint is (lines_of c.loop-k.lines)) c.batch.ensures);
+      left = up_turn (λ (j : ℕ). batched_in OfSpan c.args.constraint (get_or c.args.batches.now j [])) c.loop-k.k (length c.args.lines.now + 1 - c.loop-k.k) (length c.args.lines.now + 1 - (c.loop-k.k + 1)) c.loop-k.lines _ _ n c.loop-k.invariant.left (c.batched.ensures.0 ∙ ap (λ (is : List Measured). batched_in OfSpan c.args.constraint is c.loop-k.lines) c.batch.ensures);
       calm = c.batched.ensures.2;
     }
 
 pub returns : goal.returns
 returns c = (
-  up-end (λ (j : ℕ). batched_in OfSpan c.args.constraint (get_or c.args.batches.now j [])) c.loop-k.k (length c.args.lines.now + 1 - c.loop-k.k) (lines_of c.loop-k.lines) _ (omega (arith, c.loop-k-test.false)) c.loop-k.invariant.left,
+  up-end (λ (j : ℕ). batched_in OfSpan c.args.constraint (get_or c.args.batches.now j [])) c.loop-k.k (length c.args.lines.now + 1 - c.loop-k.k) c.loop-k.lines _ (omega (arith, c.loop-k-test.false)) c.loop-k.invariant.left,
   c.loop-k.invariant.working,
   c.loop-k.invariant.calm,
 )
@@ -33,8 +32,8 @@ returns-2 c =
     let high : c.loop-k.k ≤ length c.args.lines.now = c.loop-k-test.true in
     let n : length c.args.lines.now + 1 - c.loop-k.k ≡ suc (length c.args.lines.now + 1 - (c.loop-k.k + 1)) = omega (arith, high) in
     let turn =
-    up_turn (λ (j : ℕ). batched_in OfSpan c.args.constraint (get_or c.args.batches.now j [])) c.loop-k.k (length c.args.lines.now + 1 - c.loop-k.k) (length c.args.lines.now + 1 - (c.loop-k.k + 1)) (lines_of c.loop-k.lines) _ _ n c.loop-k.invariant.left (c.batched.ensures.0 ∙ ap (λ (is : List Measured). batched_in OfSpan c.args.constraint is (lines_of c.loop-k.lines)) c.batch.ensures) in (
-      up-end (λ (j : ℕ). batched_in OfSpan c.args.constraint (get_or c.args.batches.now j [])) (c.loop-k.k + 1) (length c.args.lines.now + 1 - (c.loop-k.k + 1)) (lines_of c.batched.new.lines) _ (omega arith) turn,
+    up_turn (λ (j : ℕ). batched_in OfSpan c.args.constraint (get_or c.args.batches.now j [])) c.loop-k.k (length c.args.lines.now + 1 - c.loop-k.k) (length c.args.lines.now + 1 - (c.loop-k.k + 1)) c.loop-k.lines _ _ n c.loop-k.invariant.left (c.batched.ensures.0 ∙ ap (λ (is : List Measured). batched_in OfSpan c.args.constraint is c.loop-k.lines) c.batch.ensures) in (
+      up-end (λ (j : ℕ). batched_in OfSpan c.args.constraint (get_or c.args.batches.now j [])) (c.loop-k.k + 1) (length c.args.lines.now + 1 - (c.loop-k.k + 1)) c.batched.new.lines _ (omega arith) turn,
       c.batched.ensures.1,
       c.batched.ensures.2,
     )

@@ -4,7 +4,6 @@ use mathlib.Core.List.{[]}
 use Prim.Native.Nat.{ℕ, ◌+◌, ◌-◌}
 use lib.ListN.{length, get_or}
 use Rattle.laws.specs.Lists.{in_turn, up_from}
-use Rattle.lines.specs.Rows.{lines_of}
 use Rattle.letters.specs.declared.batch.Batch.TheVariants.{OfSpan}
 use Rattle.letters.specs.Batches.{batched_in}
 use Rattle.spans.specs.Work.{Working, Calm, longer_lines}
@@ -14,6 +13,6 @@ abbrev pub invariant-loop-k : goal.invariant-loop-k
 invariant-loop-k l =
     record {
       working : Working l.lines l.increases l.gains l.rests l.sums;
-      left : in_turn (λ (j : ℕ). batched_in OfSpan l.constraint (get_or l.batches j [])) (up_from l.k (length l.initial.lines + 1 - l.k)) (lines_of l.lines) ≡ longer_lines l.constraint l.batches l.initial.lines;
-      calm : Calm (lines_of l.lines);
+      left : in_turn (λ (j : ℕ). batched_in OfSpan l.constraint (get_or l.batches j [])) (up_from l.k (length l.initial.lines + 1 - l.k)) l.lines ≡ longer_lines l.constraint l.batches l.initial.lines;
+      calm : Calm l.lines;
     }

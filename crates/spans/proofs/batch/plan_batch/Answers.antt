@@ -1,27 +1,14 @@
 -- `plan_batch` walks a batch: each item in its turn is laid over the increases. Assumes nothing.
-use mathlib.Core.Path.{refl, ap, ◌∙◌}
-use mathlib.Core.List.{List}
+use mathlib.Core.Path.{◌∙◌}
 use lib.ListN.{length}
 use Rattle.laws.specs.Lists.{in_turn}
-use Rattle.lines.specs.declared.measured.Measured.{Measured}
 use Rattle.lines.specs.Rule.{increased_by}
-use Rattle.lines.specs.Rows.{lines_of}
 use Rattle.lines.specs.Fits.{MeasuredFits}
 use Rattle.lines.proofs.Chains.{walk_turn, walk_end, all_first, all_rest}
 use Rattle.letters.specs.Letters.{letter_of}
 use Rattle.letters.specs.Batches.{shares_in}
 use Rattle.letters.proofs.Nothing.{or-neither}
 use Rattle.spans.proofs.batch.plan_batch.Goals as goal
-
-pub loop-item-init : goal.loop-item-init
-loop-item-init c =
-    let walks = c.into_iter-item-iterator.ensures.into_iter_gives ∙ c.walk-item-items.ensures in
-    let plan = increased_by (shares_in c.args.kind) (letter_of c.args.letter) c.args.constraint (lines_of c.args.lines.now) in
-    record {
-      fit = rw walks c.requires.1;
-      left = ap (λ (is : List Measured). in_turn plan is c.args.increases.now) walks;
-      nothing = λ _. refl;
-    }
 
 pub plan_item-gives-requires : goal.plan_item-gives-requires
 plan_item-gives-requires c = (
@@ -39,7 +26,7 @@ plan_item-gives-requires c = (
 pub loop-item-preserved : goal.loop-item-preserved
 unfolding in_turn
 loop-item-preserved c =
-    let plan = increased_by (shares_in c.args.kind) (letter_of c.args.letter) c.args.constraint (lines_of c.args.lines.now) in
+    let plan = increased_by (shares_in c.args.kind) (letter_of c.args.letter) c.args.constraint c.args.lines.now in
     record {
       fit = all_rest _ _ _ c.in-Some.ensures.steps (MeasuredFits (length c.args.lines.now)) c.loop-item.invariant.fit;
       left = walk_turn _ _ _ c.in-Some.ensures.steps plan c.loop-item.increases _ _ c.loop-item.invariant.left c.plan_item-gives.ensures.laid;
@@ -48,7 +35,7 @@ loop-item-preserved c =
 
 pub returns : goal.returns
 returns c =
-    let plan = increased_by (shares_in c.args.kind) (letter_of c.args.letter) c.args.constraint (lines_of c.args.lines.now) in
+    let plan = increased_by (shares_in c.args.kind) (letter_of c.args.letter) c.args.constraint c.args.lines.now in
     record {
       laid = walk_end _ plan c.loop-item.increases _ c.in-None.ensures.steps.0 c.loop-item.invariant.left;
       nothing = c.loop-item.invariant.nothing;

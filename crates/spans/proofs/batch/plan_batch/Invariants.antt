@@ -4,7 +4,6 @@ use mathlib.Core.Bool.{false}
 use lib.ListN.{length}
 use Rattle.laws.specs.Lists.{in_turn}
 use Rattle.lines.specs.Rule.{increased_by}
-use Rattle.lines.specs.Rows.{lines_of}
 use Rattle.lines.specs.Fits.{MeasuredFit}
 use Rattle.letters.specs.Letters.{letter_of}
 use Rattle.letters.specs.Batches.{shares_in}
@@ -14,6 +13,6 @@ abbrev pub invariant-loop-item : goal.invariant-loop-item
 invariant-loop-item l =
     record {
       fit : MeasuredFit (length l.lines) l.item-iterator;
-      left : in_turn (increased_by (shares_in l.kind) (letter_of l.letter) l.constraint (lines_of l.lines)) l.item-iterator l.increases ≡ in_turn (increased_by (shares_in l.kind) (letter_of l.letter) l.constraint (lines_of l.lines)) l.batch l.initial.increases;
+      left : in_turn (increased_by (shares_in l.kind) (letter_of l.letter) l.constraint l.lines) l.item-iterator l.increases ≡ in_turn (increased_by (shares_in l.kind) (letter_of l.letter) l.constraint l.lines) l.batch l.initial.increases;
       nothing : l.planned ≡ false → l.increases ≡ l.initial.increases;
     }

@@ -19,7 +19,7 @@ bounds-sums-e c =
     search rules
 
 pub total_between-total-requires : goal.total_between-total-requires
-total_between-total-requires c = spanned-rises c.args.lines.now c.args.item c.args.letter c.args.sums.now c.requires.0.totals c.requires.1.within
+total_between-total-requires c = spanned-rises c.args.lines.now c.args.item c.args.letter _ c.args.sums.now c.requires.0.totals c.requires.1.within
 
 pub invariant_of-extra : goal.invariant_of-extra
 invariant_of-extra c =
@@ -29,7 +29,7 @@ invariant_of-extra c =
     }
 
 pub extra-dots-requires : goal.extra-dots-requires
-extra-dots-requires c = spanned-total c.args.lines.now c.args.item c.args.letter c.args.sums.now c.requires.0.totals c.requires.1.within _ c.total_between-total.ensures
+extra-dots-requires c = spanned-total c.args.lines.now c.args.item c.args.letter _ c.args.sums.now c.requires.0.totals c.requires.1.within _ c.total_between-total.ensures
 
 pub returns-then-dots-eq0 : goal.returns-then-dots-eq0
 unfolding in_turn

@@ -2,7 +2,6 @@
 use borrow.Author.Rules.{rules}
 use mathlib.Core.Path.{sym, ap, ◌∙◌}
 use mathlib.Core.Bool.{Bool, ◌&&◌, true≢false}
-use Rattle.lines.specs.Rows.{lines_of}
 use Rattle.letters.proofs.Nothing.{or-neither}
 use Rattle.spans.proofs.Calm.{lines_stay}
 use Rattle.spans.proofs.Planned.{sums-long}
@@ -12,7 +11,7 @@ use Rattle.spans.proofs.batch.raise.Goals as goal
 pub returns-then-not-applies : goal.returns-then-not-applies
 returns-then-not-applies c =
     let off = or-neither _ _ c.if-not-applies.true in
-    let stay = lines_stay c.args.letter c.args.moved (lines_of c.args.lines.now) (ap (λ (b : Bool). c.args.moved && b) (sym c.changes_unraised.ensures) ∙ off.1) c.requires.2 in (
+    let stay = lines_stay c.args.letter c.args.moved c.args.lines.now (ap (λ (b : Bool). c.args.moved && b) (sym c.changes_unraised.ensures) ∙ off.1) c.requires.2 in (
       not-raised c.args.kind c.args.letter c.args.constraint _ c.args.lines.now c.args.increases.now _ c.requires.0.none c.plan_batch-planned.ensures.laid (c.plan_batch-planned.ensures.nothing off.0) stay,
       record { few = c.requires.0.few; fit = c.requires.0.fit; none = c.plan_batch-planned.ensures.nothing off.0 ∙ c.requires.0.none; gains-long = search rules; rests-long = search rules; totals = c.requires.0.totals },
       c.requires.2,

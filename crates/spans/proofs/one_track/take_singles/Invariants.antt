@@ -3,14 +3,13 @@ use mathlib.Core.Path.{◌≡◌}
 use lib.ListN.{length}
 use Rattle.laws.specs.Lists.{in_turn}
 use Rattle.lines.specs.Rule.{with_item_at}
-use Rattle.lines.specs.Rows.{lines_of}
 use Rattle.lines.specs.Fits.{LinesFit, MeasuredFit}
 use Rattle.spans.proofs.one_track.take_singles.Given as goal
 
 abbrev pub invariant-loop-item : goal.invariant-loop-item
 invariant-loop-item l =
     record {
-      fit : LinesFit (lines_of l.lines);
+      fit : LinesFit l.lines;
       items-fit : MeasuredFit (length l.initial.lines) l.item-iterator;
-      left : in_turn (with_item_at l.constraint) l.item-iterator (lines_of l.lines) ≡ in_turn (with_item_at l.constraint) l.batch (lines_of l.initial.lines);
+      left : in_turn (with_item_at l.constraint) l.item-iterator l.lines ≡ in_turn (with_item_at l.constraint) l.batch l.initial.lines;
     }

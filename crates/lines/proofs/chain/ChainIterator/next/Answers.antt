@@ -8,11 +8,6 @@ use lib.ListN.{length}
 use Rattle.lines.proofs.Chains.{chained-end, chained-step}
 use Rattle.lines.proofs.chain.ChainIterator.next.Goals as goal
 
-pub loop-self-smaller : goal.loop-self-smaller
-loop-self-smaller c =
-    let up = c.loop-self.invariant.rising c.loop-self.self-inside.next (omega (arith, c.loop-self.invariant.long, c.loop-self-test.true)) in
-    omega (arith, c.loop-self-test.true, up)
-
 pub loop-self-preserved : goal.loop-self-preserved
 loop-self-preserved c =
     let k : c.loop-self.self-inside.next < length c.loop-self.self-inside.nexts.now = omega (arith, c.loop-self.invariant.long, c.loop-self-test.true) in

@@ -20,10 +20,6 @@ small : (row : List ℕ) (at : ℕ) → length row ≡ 7 → row_fault item_reco
 unfolding parts_small are_small
 small row at l e = small-elements item_record 7 row at refl l e
 
-pub put_four-requires : goal.put_four-requires
-unfolding record_size
-put_four-requires c = search rules
-
 pub put_tagged-requires : goal.put_tagged-requires
 unfolding record_size
 put_tagged-requires c = (search rules, (small c.args.self c.args.at c.well_formed.0.1.0.1 c.requires.1).0)

@@ -1,0 +1,16 @@
+-- `some_taker` looks at each line until one passes. Assumes nothing.
+use Rattle.std.proofs.Common.{rules, ◌∙◌, tests}
+use Rattle.std.proofs.lemmas.Iterator.{YieldsList-from_slice}
+use Rattle.std.proofs.lemmas.Iterator.Search.{any_from_yields_List}
+use Rattle.letters.specs.Letters.{letter_of}
+use Rattle.letters.specs.Shares.{is_taker}
+use Rattle.letters.proofs.Steps.{any-some}
+use Rattle.letters.proofs.share.some_taker.Goals as goal
+
+pub returns : goal.returns
+returns c =
+    any_from_yields_List
+    (is_taker (letter_of c.args.letter)) _ _ c.any.result c.any.ensures.ran
+    (YieldsList-from_slice c.args.lines.now (cc))
+    (λ x b q k. search (rules, tests))
+    ∙ any-some (is_taker (letter_of c.args.letter)) c.args.lines.now

@@ -1,2 +1,0 @@
--- The laws of the command line's words.
-pub mod Dashes

@@ -20,9 +20,7 @@ ghost use Rattle.board.specs.Answer.{board_leaves, own_answer};
 use chains::MORE_BATCHES;
 use kinds::{Item, Track};
 pub use layout::Board;
-use layout::lay_out;
-use letters::Totals;
-use lines::Line;
+use layout::{Line, Totals, lay_out};
 pub use refusal::Refusal;
 use sheet::{Contents, says_few};
 
@@ -88,7 +86,7 @@ fn board_in<const TRACKS: usize, const ITEMS: usize, const HEADS: usize, const T
     )
 }
 
-// Reads the sheet into the rows that are lent, and lays out what it says.
+// Reads the sheet into the rows that are lent, and lays out what it says. Lent slice by slice, as below.
 fn board_with(
     bytes: &[u8],
     tracks: &mut [[u32; 4]],

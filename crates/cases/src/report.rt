@@ -1,5 +1,5 @@
-// What the program prints: the counts on standard output, or the fault on standard error. What cannot be written is not told. By hand, and no `Display` of a count: a case's
-// name is bytes, which need not be text.
+// What the program prints: the counts on standard output, or the fault on standard error. What cannot be written is not told. No `Display` of a
+// `Tally`: the name of its first case is bytes, which need not be text.
 ghost use Rattle.std.specs.Prelude.{◌≡◌};
 ghost use Rattle.cases.specs.Clean.{is_clean};
 

@@ -1,5 +1,5 @@
 // The records of a board at fault: refusals 7 to 10, on rows (specs/Rule.antt is the rule). The space is record 0, track t is 1 + t,
-// item i is 1 + tracks + i. Tracks and items are two slices, as C lends them.
+// item i is 1 + tracks + i. Tracks and items are two slices, as `docs/PROMISES.md` has them in `record_fault`.
 #![tactic(auto)]
 
 mod over;

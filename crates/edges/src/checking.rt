@@ -20,7 +20,7 @@ pub fn check(edges: &[u32]) -> Result<(), Refusal>
 }
 
 // Whether an entry is below the one before it. It looks at all of them, with no branch, so that the compiler takes several at a time. By index, here and
-// below: over `windows` and `position` the proof of the other did not close.
+// below: over `windows`, with `fold` here and `position` below, the proofs did not close.
 fn has_fall(edges: &[u32]) -> bool
     requires { 0 < length edges.now }
     ensures { result ≡ is_fault (behind_fault edges.now) }

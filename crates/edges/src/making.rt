@@ -41,7 +41,7 @@ fn check_limits(places: &[[u32; 2]]) -> Result<(), Refusal>
     Ok(())
 }
 
-// By index, since an edge is put of a place and one more behind the last.
+// By index: the library's lemmas over `zip` are of two lists that are read, and here one is written.
 fn put_edges(places: &[[u32; 2]], edges: &mut [u32])
     requires { (length places.now < length edges.old) × (limits_fault 0 0 (bases_in places.now) ≡ fine) }
     ensures { edges.new ≡ onto (edges_of (bases_in places.now)) edges.old }

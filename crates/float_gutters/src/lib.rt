@@ -51,7 +51,6 @@ fn all_known(known: &[bool]) -> bool
     known.iter().all(|is_known| *is_known)
 }
 
-// A `for`, which says the order that the float rule adds in.
 fn sum_of(estimates: &[f32]) -> f32
     ensures { result ≡ sum_of estimates.now }
 {

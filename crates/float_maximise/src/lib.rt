@@ -28,7 +28,7 @@ fn with_increase(row: [f32; 5]) -> [f32; 5]
     track.row()
 }
 
-// By index into the tracks, here and below: over `zip` what a loop keeps true would be said of what is left of two iterators.
+// By index into the tracks, here and below: the library's lemmas over `zip` are of two lists that are read, and here one is written.
 fn load_sizes(tracks: &[[f32; 5]], sizes: &mut [f32])
     requires { length sizes.old ≡ length tracks.now }
     ensures { sizes.new ≡ map base_size tracks.now }

@@ -32,7 +32,7 @@ fn stretched_row(auto: bool, row: [f32; 5], extra: f32) -> [f32; 5]
     row
 }
 
-// By index: over `zip` what the loop keeps true would be said of what is left of two iterators.
+// By index: the library's lemmas over `zip` are of two lists that are read, and here one is written.
 #[tactic(auto, using(crate::proofs::Answers::by_turn))]
 fn grow_by(tracks: &mut [[f32; 5]], autos: &[bool], extra: f32)
     requires { length autos.now ≡ length tracks.old }

@@ -18,7 +18,7 @@ impl Track {
     // Space at or below this is not worth handing out, and a track may pass its limit by as much.
     pub const THRESHOLD: f32 = 0.01;
 
-    // The track of a row, with its mark. `new` and `row`, and no `From`: a row has no mark, and C lends the rows.
+    // The track of a row, with its mark. `new` and `row`, and no `From`: `docs/PROMISES.md` names both.
     pub fn new(row: [f32; 5], mark: bool) -> Track
         ensures { result ≡ track_of row mark }
     {

@@ -1,4 +1,4 @@
-// The used space: the base sizes added in order, from -0.0 as the Rust's sums start. A `for`, which says the order that the float rule adds in.
+// The used space: the base sizes added in order, from -0.0 as the Rust's sums start.
 ghost use Rattle.std.specs.Prelude.{◌≡◌};
 ghost use Rattle.float_track.specs.Track.{used_space};
 

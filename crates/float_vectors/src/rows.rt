@@ -29,7 +29,8 @@ pub fn same_row(a: [f32; 5], b: [f32; 5]) -> bool
     bits_of_row(a) == bits_of_row(b)
 }
 
-// By index, for each row's bits: `==` on floats is another question.
+// By the bits of each row: `==` on floats is another question. By index: over `zip` what the loop keeps true would be said at the number of pairs
+// that were yielded, which is this index.
 pub fn same_rows(a: &[[f32; 5]], b: &[[f32; 5]]) -> bool
     ensures { result ≡ true → rows_bits a.now ≡ rows_bits b.now }
 {

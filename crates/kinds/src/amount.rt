@@ -2,7 +2,7 @@
 ghost use Rattle.std.specs.Prelude.{◌≡◌};
 ghost use Rattle.kinds.specs.Kinds.{amount_of, amount_tag, amount_number, above};
 
-// The tags of a sheet, which its bytes have: numbers, and `of`, `tag` and `number` to and from them, as `docs/PROMISES.md` has them.
+// The tags of a sheet: numbers, as its bytes hold them (`docs/SHEET.md`); `of`, `tag` and `number` go to and from them, as `docs/PROMISES.md` has it.
 pub const ABSENT: u32 = 0;
 
 pub const GIVEN: u32 = 1;

@@ -12,7 +12,7 @@ pub enum Constraint {
 impl Constraint {
     // The most dots of a space.
     pub const MOST: u32 = 16_777_215;
-    // The tags of a sheet, which its bytes have: numbers, as `docs/PROMISES.md` has them.
+    // The tags of a sheet: numbers, as a sheet's bytes hold them (`docs/SHEET.md`).
     pub const DEFINITE: u32 = 1;
 
     pub const MIN_CONTENT: u32 = 2;

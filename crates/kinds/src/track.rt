@@ -21,7 +21,7 @@ pub enum Maximum {
 }
 
 impl Minimum {
-    // The tags of a sheet, which its bytes have: numbers, as `docs/PROMISES.md` has them.
+    // The tags of a sheet: numbers, as a sheet's bytes hold them (`docs/SHEET.md`).
     pub const FIXED: u32 = 1;
 
     pub const AUTO: u32 = 2;
@@ -43,7 +43,7 @@ impl Minimum {
 }
 
 impl Maximum {
-    // The tags of a sheet.
+    // The tags of a sheet: numbers, as a sheet's bytes hold them (`docs/SHEET.md`).
     pub const FIXED: u32 = 1;
 
     pub const AUTO: u32 = 2;

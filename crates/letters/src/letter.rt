@@ -17,8 +17,7 @@ pub enum Letter {
     F,
 }
 
-// Whether a minimum is of a wanted kind; fixed never is. Flags, and no `matches!` for each letter: one match serves them all, as the
-// letters' lists of kinds do in the rule.
+// Whether a minimum is of a wanted kind; fixed never is. By flags: one `matches!` for each letter was written, and its proof did not close.
 fn by_minimum(line: Line, auto: bool, min_content: bool, max_content: bool) -> bool
     ensures { result ≡ by_minimum line.track.minimum auto min_content max_content }
 {
@@ -66,7 +65,7 @@ impl Letter {
         }
     }
 
-    // Of the affected, those that take what remains before the others. By `by_maximum`, as whom a letter affects.
+    // Of the affected, those that take what remains before the others. Told by `by_maximum`, as `affected` is: see there.
     pub(crate) fn takes(self, line: Line) -> bool
         ensures { result ≡ (letter_of self).takes line }
     {

@@ -1,6 +1,6 @@
 // Shares of dots among lines: each gets what the fill gives it, on top of the gain that it has. The two shares of a letter find
 // each cap once, and keep it in the gain while the rounds run. The rests are scratch: what stands in them is not read.
-// Lists that go along with one another are read by index: over `zip` what a loop keeps true would be said of what is left of two iterators.
+// Lists that go along with one another are read by index: the library's lemmas over `zip` are of two lists that are read, and here one is written.
 // Lines, gains and rests stay three slices and no struct: a caller cuts its part of each for one item, `share_out` takes increases for gains,
 // and the rounds take the rests alone. That lines fit, and that dots are no more than the most, stay clauses: each is a bound that the caller has, and
 // a type for it would be taken off at the first sum.

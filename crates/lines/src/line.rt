@@ -1,5 +1,5 @@
 // A track at work: its kinds, its base size and growth limit, and whether the limit is infinitely growable. That is a mark beside the limit, and no case
-// of it, since the rule's line has both, and a mark may stand beside no limit.
+// of it, since the rule's line has both, and a line may have the mark and no limit.
 ghost use Rattle.std.specs.Prelude.{◌≡◌};
 ghost use Rattle.rounds.specs.Rooms.{room_in};
 ghost use Rattle.lines.specs.Rule.{number, argument, limit_size, base_room, start_base, start_limit, start_line};

@@ -8,7 +8,7 @@ ghost use Rattle.lines.specs.Lines.{Makes};
 use crate::line::Line;
 use kinds::Track;
 
-// Step 1. By index into the tracks: over `zip` what the loop keeps true would be said of what is left of two iterators.
+// Step 1. By index into the tracks: the library's lemmas over `zip` are of two lists that are read, and here one is written.
 #[tactic(auto, unfolding(crate::specs::Rule::start))]
 pub fn start(tracks: &[[u32; 4]], lines: &mut [Line])
     requires { length lines.old ≡ length tracks.now }

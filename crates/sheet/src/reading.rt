@@ -73,7 +73,7 @@ fn read_rows<R: RecordRow>(bytes: &[u8], from: usize, rows: &mut [R])
     requires { from + length rows.old * record_size R.parts ≤ length bytes.now }
     ensures { map R.numbers rows.new ≡ rows_at R.parts bytes.now (length rows.old) from }
 {
-    // The place goes along with the rows, as the rule's `rows_at` has it: a product for each row would have to be bounded.
+    // The place goes along with the rows: a product for each would have to be bounded.
     let mut at = from;
     for row in rows.iter_mut() {
         *row = R::read(bytes, at);

@@ -84,7 +84,7 @@ fn record_fault<R: RecordRow>(bytes: &[u8], at: usize) -> Result<(), Refusal>
 fn records_fault<R: RecordRow>(bytes: &[u8], count: usize, from: usize) -> Result<(), Refusal>
     ensures { fault_of result ≡ records_fault R.parts bytes.now count from }
 {
-    // The place goes along with the rows, as the rule's `rows_at` has it: a product for each row would have to be bounded.
+    // The place goes along with the rows: a product for each would have to be bounded.
     let mut at = from;
     for _ in 0..count {
         record_fault::<R>(bytes, at)?;

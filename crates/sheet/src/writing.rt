@@ -66,7 +66,7 @@ fn rows_fault<R: RecordRow>(rows: &[R], from: usize) -> Result<(), Refusal>
     requires { from + length rows.now * record_size R.parts ≤ last_place }
     ensures { (fault_of result ≡ rows_fault R.parts (map R.numbers rows.now) from) × LookedAt (width R.parts) R.parts (map R.numbers rows.now) from }
 {
-    // The place goes along with the rows, as the rule's `rows_at` has it: a product for each row would have to be bounded.
+    // The place goes along with the rows: a product for each would have to be bounded.
     let mut at = from;
     for row in rows {
         row.fault(at)?;
@@ -115,7 +115,7 @@ fn put_rows<R: RecordRow>(rows: &[R], bytes: &mut [u8], from: usize)
     requires { (rows_fault R.parts (map R.numbers rows.now) from ≡ fine) × (from + length rows.now * record_size R.parts ≤ length bytes.old) }
     ensures { bytes.new ≡ put from (rows_bytes R.parts (map R.numbers rows.now)) bytes.old }
 {
-    // The place goes along with the rows, as the rule's `rows_at` has it: a product for each row would have to be bounded.
+    // The place goes along with the rows: a product for each would have to be bounded.
     let mut at = from;
     for row in rows {
         row.put(bytes, at);

@@ -26,7 +26,7 @@ pub enum SheetMaximum {
 }
 
 impl SheetMinimum {
-    // The tags of a sheet.
+    // The tags of a sheet: numbers, as a sheet's bytes hold them (`docs/SHEET.md`).
     pub const FIXED: u32 = Minimum::FIXED;
 
     pub const AUTO: u32 = Minimum::AUTO;
@@ -48,7 +48,7 @@ impl SheetMinimum {
 }
 
 impl SheetMaximum {
-    // The tags of a sheet.
+    // The tags of a sheet: numbers, as a sheet's bytes hold them (`docs/SHEET.md`).
     pub const FIXED: u32 = Maximum::FIXED;
 
     pub const AUTO: u32 = Maximum::AUTO;

@@ -105,15 +105,15 @@ fn board_with(
     ensures { (board_leaves result sizes.new ≡ board_call bytes.now sizes.old) × (own_answer result ≡ result) }
 {
     let contents = sheet::read(bytes, tracks, items)?;
-    let board = lay_out_first(
+    let board = lay_out_contents(
         contents, tracks, items, heads, nexts, lines, increases, gains, rests, sums, held, sizes,
     )?;
     Ok(board)
 }
 
-// The first rows are the sheet's, and the layout gets as much of the store as they need. It is lent slice by slice: a struct of
+// What was read, laid out: the first rows are the sheet's, and the layout gets as much of the store as they need. It is lent slice by slice: a struct of
 // `&mut` would have to promise of each field that it is the same slice as before (batch.rt of `spans` says more).
-fn lay_out_first(
+fn lay_out_contents(
     contents: Contents,
     tracks: &[[u32; 4]],
     items: &[[u32; 7]],

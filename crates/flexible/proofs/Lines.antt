@@ -37,8 +37,5 @@ module _ (lines : List Line) (i : ℕ) (fr w : Fr) where
 -- ---- The lines grown
 
 module _ (lines : List Line) (i : ℕ) (d : Line) (fits : All FactorFits lines) (h : i < length lines) where
-  pub factor-here : FactorFits (get_or lines i d)
-  factor-here = all-at FactorFits lines i d fits h
-
   pub factors-kept : (fr : Fr) (v : Line) → v ≡ flexed fr (get_or lines i d) → All FactorFits (set lines i v)
-  factors-kept fr v e = all_set FactorFits lines i v fits (subst FactorFits (sym e) factor-here)
+  factors-kept fr v e = all_set FactorFits lines i v fits (subst FactorFits (sym e) (all-at FactorFits lines i d fits h))

@@ -42,8 +42,8 @@ fn fr_now(space: u32, lines: &[Line], held: &[bool]) -> Fr
 {
     let mut sizes: u32 = 0;
     let mut factors: u32 = 0;
-    // By index: over `zip` what the loop keeps true would be said of both lists at the number of pairs that were yielded, which is this index. Below, a list
-    // is written, of which the library's lemmas over `zip` are not.
+    // By index: over `zip` what the loop keeps true would be said of both lists at the number of pairs that were yielded, which is this index. The
+    // other loops write one of their lists, and the library has no lemmas over `zip` for that.
     for i in 0..lines.len() {
         let line = lines[i];
         let mark = held[i];

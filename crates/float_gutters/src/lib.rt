@@ -63,7 +63,7 @@ fn sum_of(estimates: &[f32]) -> f32
 
 // What the tracks leave free of a size: nothing where an estimate is absent. The marks and the estimates are apart, here and below, since C lends
 // them so.
-#[tactic(auto, using(crate::proofs::Known::every_of_all))]
+#[tactic(auto, using(laws::specs::Lists::every_of_all))]
 fn free_of(size: f32, known: &[bool], estimates: &[f32]) -> f32
     ensures { result ≡ free_of size known.now estimates.now }
 {

@@ -1,5 +1,6 @@
 -- Words for lists in which the rules of a board are said, with what a proof asks of each. Assumes nothing.
 use Rattle.std.specs.Prelude.{◌≡◌, refl, Bool, false, true, cond, ◌&&◌, ◌||◌, eqb, length, get_or, set, take, drop}
+use Rattle.std.specs.List.{list_any, list_all}
 use Rattle.std.proofs.Common.{ap, le_of_suc-le-suc, not-suc-le-zero, arith}
 use Prim.Native.Nat.{ℕ, zero, suc, ◌+◌, ◌<◌, max}
 use mathlib.Core.List.{List, [], ◌∷◌, ◌++◌, map, zip_with}
@@ -29,6 +30,17 @@ module _ {A : Type 0} where
   unfoldable pub every : (A → Bool) → List A → Bool
   every p [] = true
   every p (x ∷ xs) = p x && every p xs
+
+  -- std's words for the two
+  pub some_of_any : (p : A → Bool) (xs : List A) → list_any p xs ≡ some p xs
+  unfolding some
+  some_of_any p [] = refl
+  some_of_any p (x ∷ xs) = ap (p x ||◌) (some_of_any p xs)
+
+  pub every_of_all : (p : A → Bool) (xs : List A) → list_all p xs ≡ every p xs
+  unfolding every
+  every_of_all p [] = refl
+  every_of_all p (x ∷ xs) = ap (p x &&◌) (every_of_all p xs)
 
   -- f at the place i
   unfoldable pub change_at : ℕ → (A → A) → List A → List A

@@ -1,6 +1,9 @@
 -- A loop that walks a list from the front, with i as the next place: what it has still to read is `drop i l`, and what it
 -- has written is `take i l`. Assumes nothing.
 use Rattle.std.specs.Prelude.{◌≡◌, List, [], ◌∷◌, ◌++◌, ℕ, ◌+◌, ◌≤◌, ◌<◌, length, get_or, take, drop, set}
+use mathlib.Core.Path.{sym, ap, ◌∙◌}
+use lib.Seq.{get_or-drop, drop-drop}
+use native.Mathlib.Nat.{add-zero}
 use Rattle.std.proofs.Common.{append_assoc, append-nil, add-one, arith, drop_of_length-le, drop-cons, take-suc-set, drop-set-lt, take_all}
 
 module _ {A : Type 0} where
@@ -26,3 +29,14 @@ module _ {A : Type 0} where
     -- the walk's end
     pub store-end : (F : List A → List A) (w : List A) → length l ≤ i → F [] ≡ [] → take i l ++ F (drop i l) ≡ w → l ≡ w
     store-end F w h e p = rw (drop_of_length-le l, e, take_all, append-nil) at p
+
+-- lists that are the same from the place i on
+module _ {A : Type 0} (xs ys : List A) (i : ℕ) (e : drop i xs ≡ drop i ys) where
+  pub same_here : (d : A) → get_or xs i d ≡ get_or ys i d
+  same_here d =
+      let a : get_or (drop i xs) 0 d ≡ get_or xs i d = get_or-drop i xs 0 d ∙ ap (λ (k : ℕ). get_or xs k d) (add-zero i) in
+      let b : get_or (drop i ys) 0 d ≡ get_or ys i d = get_or-drop i ys 0 d ∙ ap (λ (k : ℕ). get_or ys k d) (add-zero i) in
+      sym a ∙ ap (λ (zs : List A). get_or zs 0 d) e ∙ b
+
+  pub same_next : (v : A) → drop (i + 1) (set xs i v) ≡ drop (i + 1) ys
+  same_next v = kept xs i v ∙ sym (drop-drop 1 i xs) ∙ ap (drop 1) e ∙ drop-drop 1 i ys

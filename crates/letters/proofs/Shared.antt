@@ -97,10 +97,6 @@ module _ (share : Share) (dots : ℕ) (ls : List Line) (gains rs xs : List ℕ) 
 pub zeros-as : {m n : ℕ} {zs : List ℕ} → zs ≡ replicate m 0 → m ≡ n → zs ≡ replicate n 0
 zeros-as z e = z ∙ ap (λ (k : ℕ). replicate k 0) e
 
--- as many as there are lines
-pub zeros-of-lines : (lines : List Line) (n : ℕ) (zs : List ℕ) → zs ≡ replicate n 0 → n ≡ length lines → zs ≡ replicate (length lines) 0
-zeros-of-lines lines n zs e h = zeros-as {m = n} {n = length lines} e h
-
 pub zeros-more : (n : ℕ) (gs : List ℕ) → length gs ≡ n → zip_with ◌+◌ (replicate n 0) gs ≡ gs
 unfolding zip_with
 zeros-more zero [] e = refl

@@ -1,12 +1,12 @@
 -- A turn and the end of each loop over lines, said of lists. Assumes nothing.
 use mathlib.Core.Path.{◌≡◌, refl, sym, ap, ◌∙◌}
-use mathlib.Core.Bool.{Bool, true, false, cond, ◌||◌}
+use mathlib.Core.Bool.{Bool, true, false, cond}
 use mathlib.Core.List.{List, [], ◌∷◌, map}
 use Prim.Native.Nat.{ℕ, ◌+◌, ◌≤◌, ◌<◌, max}
 use native.Mathlib.Nat.{add-zero}
 use native.Mathlib.Omega.{arith}
 use lib.ListN.{length, get_or, drop, drop_of_length-le}
-use Rattle.laws.specs.Lists.{among, some, every, larger, all-at}
+use Rattle.laws.specs.Lists.{among, every, larger, all-at}
 use Rattle.laws.specs.Sums.{sum}
 use Rattle.laws.specs.Walk.{next}
 use Rattle.kinds.specs.Kinds.{maximum_tag, maximum_number}
@@ -15,16 +15,12 @@ use Rattle.kinds.specs.declared.track.Maximum.TheVariants as maximum
 use Rattle.spanned.specs.Rule.{most_size}
 use Rattle.spanned.specs.Sound.{most_of}
 use Rattle.std.specs.Prelude.{Some, None}
-use Rattle.std.specs.List.{list_any}
 use Rattle.lines.specs.declared.line.Line.{Line}
 use Rattle.lines.specs.Rule.{Limit, max_in, number, maxima}
 use Rattle.lines.specs.Fits.{LineFits, LinesFit}
 use Rattle.letters.specs.Letters.{fixed_maximum}
 
 module _ (lines : List Line) (i : ℕ) where
-  pub line-fits : (d : Line) → LinesFit lines → i < length lines → LineFits (get_or lines i d)
-  line-fits d a h = all-at LineFits lines i d a h
-
   -- ---- a sum of what each line has
 
   pub total-step : (d : Line) (P : Line → ℕ) (total v w : ℕ) → i < length lines → v ≡ P (get_or lines i d) → total + sum (map P (drop i lines)) ≡ w
@@ -37,13 +33,6 @@ module _ (lines : List Line) (i : ℕ) where
   pub total-end : (P : Line → ℕ) (total w : ℕ) → length lines ≤ i → total + sum (map P (drop i lines)) ≡ w → total ≡ w
   unfolding sum
   total-end P total w h p = let q : sum (map P (drop i lines)) ≡ 0 = ap (λ (ls : List Line). sum (map P ls)) (drop_of_length-le lines h) in omega arith
-
--- ---- whether one of them passes
-
-pub any-some : (p : Line → Bool) (ls : List Line) → list_any p ls ≡ some p ls
-unfolding some
-any-some p [] = refl
-any-some p (l ∷ ls) = ap (p l ||◌) (any-some p ls)
 
 -- ---- the sum of the maxima
 
@@ -118,7 +107,7 @@ module _ (lines : List Line) (i total : ℕ) (w : Limit) where
       ∙ p
 
 pub fixed-fits : (lines : List Line) (i : ℕ) (d : Line) (n : ℕ) → LinesFit lines → i < length lines → fixed_maximum (get_or lines i d).track.maximum ≡ Some n → n ≤ most_size
-fixed-fits lines i d n a h e = fixed-le (get_or lines i d).track.maximum n e (line-fits lines i d a h).track.1
+fixed-fits lines i d n a h e = fixed-le (get_or lines i d).track.maximum n e (all-at LineFits lines i d a h).track.1
 
 -- ---- the larger of each two
 

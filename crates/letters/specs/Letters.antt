@@ -1,12 +1,11 @@
 -- The code's letters, and its tests of kinds, in the words of the rule. Assumes nothing.
-use Rattle.std.specs.Prelude.{◌≡◌, ℕ, Bool, true, false, Some, None}
+use Rattle.std.specs.Prelude.{ℕ, Bool, true, false, Some, None}
 use Rattle.kinds.specs.declared.track.Minimum.{Minimum}
 use Rattle.kinds.specs.declared.track.Minimum.TheVariants as minimum
 use Rattle.kinds.specs.declared.track.Maximum.{Maximum}
 use Rattle.kinds.specs.declared.track.Maximum.TheVariants as maximum
 use Rattle.lines.specs.Rule.{Limit, letter_a, letter_b, letter_c, letter_d, letter_e, letter_f}
 use Rattle.lines.specs.Rule as rule
-use Rattle.lines.specs.declared.line.Line.{Line}
 use Rattle.letters.specs.declared.letter.Letter.{Letter}
 use Rattle.letters.specs.declared.letter.Letter.TheVariants.{A, B, C, D, E, F}
 

@@ -1,9 +1,9 @@
 -- The laws of the lines. A function's own proof stands in the folder of its name.
 
--- walks over lines
+-- a slice of the lines, and a line past their end
 pub mod Slices
+pub mod NoLine
 pub mod Parted
-pub mod Walks
 -- the chains of the batches
 pub mod Chains
 -- the share by factor, and the last batch

@@ -2,14 +2,15 @@
 -- contribution, spans within the board. Assumes nothing.
 use Rattle.std.specs.Prelude.{ℕ, ◌+◌, ◌≤◌, ◌<◌, List}
 use Rattle.laws.specs.Lists.{All}
+use Rattle.kinds.specs.Kinds.{amount_number}
 use Rattle.kinds.specs.declared.item.ContributionKind.{ContributionKind}
 use Rattle.spanned.specs.Rule.{most_size, most_contribution}
 use Rattle.spanned.specs.Sound.{TrackFits}
 use Rattle.lines.specs.declared.line.Line.{Line}
 use Rattle.lines.specs.declared.measured.Measured.{Measured}
 use Rattle.lines.specs.Rule.{contribution_at}
-use Rattle.kinds.specs.Kinds.{amount_number}
 
+-- a limit, where there is one; of none there is nothing to bound
 pub record LineFits (l : Line) : Type 0 where
   pub track : TrackFits l.track
   pub base : l.base ≤ most_size

@@ -1,7 +1,7 @@
 -- The records of a sheet: what their bytes say, what is wrong with them, and the bytes that say it. This is the first page of the
 -- sheet's rule, and `crates/sheet/specs/Rule.antt` the second: sections, the sheet, the calls. They follow the build paper's section
--- 'The sheet' and numbers 1 to 6 of its table, in the words for faults of `crates/laws/specs/Faults.antt`, which it hands on. It assumes
--- nothing of the code and it computes.
+-- 'The sheet' and numbers 1 to 6 of its table, in the words for faults of `crates/laws/specs/Faults.antt`, 6 among them (`enough`), and the word for
+-- what is lent of `Put.antt` beside it (`onto`), which it hands on. It assumes nothing of the code and it computes.
 use Rattle.std.specs.Prelude.{ℕ, zero, suc, ◌+◌, ◌*◌, ◌/◌, ◌%◌, cond, List, [], ◌∷◌, ◌++◌, eqb, get_or}
 use Rattle.laws.specs.Lists.{among}
 pub use Rattle.laws.specs.Faults.{Fault, fine, fault, first, unless, enough}

@@ -9,7 +9,7 @@ pub enum Axis {
 }
 
 impl Axis {
-    // The bytes of a sheet: numbers, as a sheet's bytes hold them (`docs/SHEET.md`).
+    // Numbers, as a sheet's bytes hold them (`docs/SHEET.md`).
     pub const INLINE: u32 = 0;
 
     pub const BLOCK: u32 = 1;

@@ -19,7 +19,7 @@ use Rattle.letters.specs.declared.share.Share.{Share}
 use Rattle.letters.specs.declared.share.Share.TheVariants.{Maximise, Stretch}
 use Rattle.letters.specs.Letters.{most}
 use Rattle.letters.specs.Shares.{share_track, share_tracks}
-use Rattle.letters.proofs.Shared.{share-fresh, zeros-more, zeros-of-lines, tracks-of-zeros}
+use Rattle.letters.proofs.Shared.{share-fresh, zeros-more, tracks-of-zeros}
 use Rattle.sizing.specs.Size.{most_base, BasesFit, maximised}
 
 -- ---- one fill
@@ -62,12 +62,12 @@ module _ (share : Share) (dots : ℕ) (lines : List Line) (zs : List ℕ) (z : z
 module _ (lines : List Line) (zs : List ℕ) (z : zs ≡ replicate (length lines) 0) where
   maximise-fill : (dots : ℕ) → fill dots (share_tracks Maximise lines zs) ≡ fill dots (map maximise_track lines)
   maximise-fill dots =
-      ap (λ (ys : List ℕ). fill dots (share_tracks Maximise lines ys)) (zeros-of-lines lines (length lines) zs z refl)
+      ap (λ (ys : List ℕ). fill dots (share_tracks Maximise lines ys)) z
       ∙ ap (fill dots) (tracks-of-zeros Maximise lines)
 
   stretch-fill : (dots : ℕ) → fill dots (share_tracks Stretch lines zs) ≡ fill dots (map stretch_track lines)
   stretch-fill dots =
-      ap (λ (ys : List ℕ). fill dots (share_tracks Stretch lines ys)) (zeros-of-lines lines (length lines) zs z refl)
+      ap (λ (ys : List ℕ). fill dots (share_tracks Stretch lines ys)) z
       ∙ ap (fill dots) (tracks-of-zeros Stretch lines)
 
   module _ (n total dots : ℕ) (whole : total ≡ bases lines) (free : dots ≡ n - total) where

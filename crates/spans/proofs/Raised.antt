@@ -20,7 +20,7 @@ use Rattle.letters.specs.declared.totals.Totals.{Totals}
 use Rattle.letters.specs.Totals.{tallied}
 use Rattle.lines.proofs.Increases.{length-increases}
 use Rattle.letters.proofs.Keeps.{increases-applicable, raise-fits}
-use Rattle.letters.proofs.Shared.{zeros-as, zeros-of-lines}
+use Rattle.letters.proofs.Shared.{zeros-as}
 use native.Mathlib.Omega.{arith}
 use borrow.Author.Tests.{eqb-true}
 use lib.Dec.{eqb}
@@ -32,7 +32,7 @@ module _ (kind : Batch) (letter : Letter) (c : Constraint) (batch : List Measure
   unfolding increases
   planned-is =
       told
-      ∙ ap (in_turn (increased_by (shares_in kind) (letter_of letter) c lines) batch) (zeros-of-lines lines (length lines) start none refl)
+      ∙ ap (in_turn (increased_by (shares_in kind) (letter_of letter) c lines) batch) none
 
   pub length-planned : length planned ≡ length lines
   length-planned = ap length planned-is ∙ length-increases (shares_in kind) (letter_of letter) c batch lines
@@ -55,7 +55,7 @@ module _ (kind : Batch) (letter : Letter) (c : Constraint) (batch : List Measure
   unfolding raise
   not-raised same stay =
       sym stay
-      ∙ ap (zip_with (letter_of letter).grown lines) (sym (zeros-of-lines lines (length lines) start none refl) ∙ sym same ∙ planned-is)
+      ∙ ap (zip_with (letter_of letter).grown lines) (sym none ∙ sym same ∙ planned-is)
 
 -- ---- letter by letter
 

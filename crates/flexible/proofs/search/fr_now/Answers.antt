@@ -6,7 +6,7 @@ use Prim.Native.Nat.{◌-◌}
 use native.Mathlib.Omega.{arith}
 use lib.ListN.{get_or}
 use Rattle.lines.specs.Rule.{number}
-use Rattle.lines.proofs.Walks.{no_line}
+use Rattle.lines.proofs.NoLine.{no_line}
 use Rattle.lines.specs.Fr.{fr_of, held_size, open_factor, fr_now}
 use Rattle.flexible.proofs.Walks.{sum_step, sum-end}
 use Rattle.flexible.proofs.Sizes.{held-sizes-small, open-factors-small}

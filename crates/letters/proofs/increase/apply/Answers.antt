@@ -4,9 +4,8 @@ use mathlib.Core.Path.{refl, ap, ◌∙◌}
 use mathlib.Core.List.{List, zip_with}
 use Prim.Native.Nat.{ℕ, ◌+◌}
 use lib.ListN.{length, drop, replicate}
-use Rattle.laws.specs.Walk.{store_step, store-end}
+use Rattle.laws.specs.Walk.{store_step, store-end, same_here, same_next}
 use Rattle.lines.specs.declared.line.Line.{Line}
-use Rattle.lines.proofs.Walks.{same_here, same_next}
 use Rattle.letters.specs.Letters.{letter_of}
 use Rattle.letters.proofs.ApplySteps.{grown-step, grown-nil, present-same}
 use Rattle.letters.proofs.increase.apply.Goals as goal

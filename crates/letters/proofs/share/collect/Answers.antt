@@ -3,10 +3,10 @@ use borrow.Author.Rules.{rules}
 use mathlib.Core.Path.{ap, ◌∙◌}
 use Prim.Native.Nat.{ℕ, ◌+◌, ◌-◌}
 use lib.ListN.{get_or}
-use Rattle.laws.specs.Walk.{store_step, store-end}
+use Rattle.laws.specs.Walk.{store_step, store-end, same_here, same_next}
 use Rattle.rounds.specs.Rests.{cap_of}
 use Rattle.letters.specs.Shares.{share_track}
-use Rattle.lines.proofs.Walks.{no_line, same_here, same_next}
+use Rattle.lines.proofs.NoLine.{no_line}
 use Rattle.letters.proofs.ShareSteps.{gained_from, gained-step, gained-nil, lost-at}
 use Rattle.letters.proofs.share.collect.Goals as goal
 

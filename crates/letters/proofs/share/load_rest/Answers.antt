@@ -6,13 +6,14 @@ use mathlib.Core.Bool.{Bool, cond}
 use mathlib.Core.List.{List}
 use Prim.Native.Nat.{ℕ, ◌+◌}
 use lib.ListN.{get_or}
-use Rattle.laws.specs.Walk.{store_step, store-end}
+use Rattle.laws.specs.Walk.{store_step, store-end, same_here, same_next}
 use Rattle.rounds.specs.Rule.{Room}
 use Rattle.rounds.specs.Rests.{cap_in, cap_of}
 use Rattle.letters.specs.Letters.{letter_of}
 use Rattle.letters.specs.Shares.{rest_of}
-use Rattle.lines.proofs.Walks.{no_line, same_here, same_next}
-use Rattle.letters.proofs.Steps.{line-fits}
+use Rattle.lines.proofs.NoLine.{no_line}
+use Rattle.laws.specs.Lists.{all-at}
+use Rattle.lines.specs.Fits.{LineFits}
 use Rattle.letters.proofs.ShareSteps.{rest_caps_from, rest-caps-step, rest-caps-end, capped_from, capped-step, capped-nil}
 use Rattle.letters.proofs.Shared.{rest-cap-le}
 use Rattle.letters.proofs.share.load_rest.Goals as goal
@@ -25,7 +26,7 @@ overflow_add-gains c =
     ∙ ap₂ (λ (takes : Bool) (room : Room). cond takes (cap_in c.args.dots room) 0) c.takes_rest.ensures c.rest_room.ensures in
     let same = same_here c.loop-i.gains c.args.gains.now c.loop-i.i c.loop-i.invariant.0 0 in
     let few = c.requires.2 c.loop-i.i in
-    let le = rest-cap-le c.args.letter c.args.takers_only c.args.dots now (get_or c.args.lines.now c.loop-i.i no_line) c.requires.1 (line-fits c.args.lines.now c.loop-i.i no_line c.requires.3 (search rules)) in
+    let le = rest-cap-le c.args.letter c.args.takers_only c.args.dots now (get_or c.args.lines.now c.loop-i.i no_line) c.requires.1 (all-at LineFits c.args.lines.now c.loop-i.i no_line c.requires.3 (search rules)) in
     search rules
 
 pub loop-i-preserved : goal.loop-i-preserved

@@ -4,7 +4,7 @@ use Rattle.std.proofs.lemmas.Iterator.{YieldsList-from_slice}
 use Rattle.std.proofs.lemmas.Iterator.Search.{any_from_yields_List}
 use Rattle.letters.specs.Letters.{letter_of}
 use Rattle.letters.specs.Shares.{is_taker}
-use Rattle.letters.proofs.Steps.{any-some}
+use Rattle.laws.specs.Lists.{some_of_any}
 use Rattle.letters.proofs.share.some_taker.Goals as goal
 
 pub returns : goal.returns
@@ -13,4 +13,4 @@ returns c =
     (is_taker (letter_of c.args.letter)) _ _ c.any.result c.any.ensures.ran
     (YieldsList-from_slice c.args.lines.now (cc))
     (λ x b q k. search (rules, tests))
-    ∙ any-some (is_taker (letter_of c.args.letter)) c.args.lines.now
+    ∙ some_of_any (is_taker (letter_of c.args.letter)) c.args.lines.now

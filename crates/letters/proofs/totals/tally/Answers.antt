@@ -3,7 +3,7 @@ use borrow.Author.Rules.{rules}
 use mathlib.Core.Path.{◌≡◌, sym, ap, ◌∙◌}
 use Prim.Native.Nat.{ℕ, ◌+◌}
 use lib.ListN.{length, set, get_or}
-use Rattle.lines.proofs.Walks.{no_line}
+use Rattle.lines.proofs.NoLine.{no_line}
 use Rattle.letters.specs.Totals.{totals}
 use Rattle.letters.proofs.Tallies.{tally-step, tally-end}
 use Rattle.letters.proofs.totals.tally.Goals as goal

@@ -4,7 +4,7 @@ use mathlib.Core.Path.{ap, ap₂, ◌∙◌}
 use Prim.Native.Nat.{ℕ, ◌+◌, ◌-◌, ◌<◌, max}
 use lib.ListN.{length, get_or}
 use Rattle.lines.specs.Rule.{Limit, line}
-use Rattle.lines.proofs.Walks.{no_line}
+use Rattle.lines.proofs.NoLine.{no_line}
 use Rattle.spans.proofs.OneTrack.{one_line, one-few, one-fits, item-taken}
 use Rattle.spans.proofs.one_track.with_item.Goals as goal
 

@@ -14,7 +14,7 @@ use texts::{Fault, Stop};
 pub(crate) const MOST_BYTES: usize = 1048576;
 
 // Zeros, for the text. The `ensures` gives only the length, which lending the array as a slice needs.
-pub(crate) fn buffer() -> [u8; MOST_BYTES]
+pub fn buffer() -> [u8; MOST_BYTES]
     ensures { 1048576 ≡ length result }
 {
     [0; MOST_BYTES]
@@ -24,7 +24,7 @@ pub(crate) fn buffer() -> [u8; MOST_BYTES]
 #[derive(Clone, Copy)]
 struct Asked<'a> {
     rt: &'a HostRuntime,
-    program: &'a str,
+    program: &'a [u8],
     path: &'a [u8],
 }
 
@@ -32,8 +32,8 @@ impl Asked<'_> {
     // A line on standard error: the program, the file, and what is told of it.
     fn tell(&self, words: &str) {
         let rt = self.rt;
-        let program = self.program;
-        let _ = eprint!(rt; "{program}: ");
+        let _ = rt.stderr().write_all(self.program);
+        let _ = eprint!(rt; ": ");
         let _ = rt.stderr().write_all(self.path);
         let _ = eprintln!(rt; ": {words}");
     }
@@ -83,12 +83,13 @@ impl Asked<'_> {
 }
 
 // How many bytes the whole file has. One that cannot be read whole is told on standard error.
-pub fn load(rt: &HostRuntime, program: &str, text: &mut [u8]) -> Option<usize>
+pub fn load(rt: &HostRuntime, program: &[u8], text: &mut [u8]) -> Option<usize>
     ensures { IfSome result (λ length. IsPrefixLen length text.new) }
 {
     let mut path = io::buffer();
     let Ok(length) = rt.arg(1, &mut path) else {
-        let _ = eprintln!(rt; "{program}: a file name of at most 4096 bytes was expected");
+        let _ = rt.stderr().write_all(program);
+        let _ = eprintln!(rt; ": a file name of at most 4096 bytes was expected");
         return None;
     };
     let path = &path[..length];

@@ -11,9 +11,10 @@ mod walk;
 mod wanted;
 
 pub use compare::same;
-pub use file::load;
+pub use file::{buffer, load};
 pub use program::run;
 pub use report::print;
 pub use tally::{First, Tally};
-pub use texts::{Stop, Text};
-pub use wanted::{Answer, Refused, Wanted, read_wanted};
+pub use texts::{Fault, Stop, Text};
+pub use walk::count;
+pub use wanted::{Answer, Refused, Wanted, read_wanted, wanted_of};

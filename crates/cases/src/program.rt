@@ -11,6 +11,7 @@ pub fn run<F: Fn(&mut Text) -> Result<bool, Stop>>(rt: &HostRuntime, program: &s
     requires calls { F.IsAlwaysCallable check }
     requires cases { AllOnward (F.post check) }
 {
+    let program = program.as_bytes();
     let mut memory = buffer();
     if let Some(length) = load(rt, program, &mut memory) {
         print(rt, program, count(&memory[..length], check));

@@ -23,12 +23,13 @@ fn print_tally(rt: &HostRuntime, tally: Tally) {
     }
 }
 
-pub(crate) fn print_stop(rt: &HostRuntime, program: &str, stop: Stop) {
-    let _ = eprintln!(rt; "{program}: {stop}");
+pub(crate) fn print_stop(rt: &HostRuntime, program: &[u8], stop: Stop) {
+    let _ = rt.stderr().write_all(program);
+    let _ = eprintln!(rt; ": {stop}");
 }
 
 // The counts, or the fault. Answers whether the run was clean.
-pub fn print(rt: &HostRuntime, program: &str, counted: Result<Tally, Stop>) -> bool
+pub fn print(rt: &HostRuntime, program: &[u8], counted: Result<Tally, Stop>) -> bool
     ensures { result ≡ is_clean counted.entry }
 {
     match counted {

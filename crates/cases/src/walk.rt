@@ -1,5 +1,5 @@
 // How many cases of a text agree.
-ghost use Rattle.std.specs.Prelude.{◌<◌, IfOk, IfSome};
+ghost use Rattle.std.specs.Prelude.{◌<◌, ◌≤◌, length, IfOk, IfSome};
 ghost use Rattle.texts.specs.Reading.{Onward, AllOnward};
 
 use crate::tally::Tally;
@@ -21,14 +21,14 @@ fn next_case<'a>(text: &mut Text<'a>) -> Result<Option<&'a [u8]>, Stop>
     }
 }
 
-// `check` reads a case, from behind its name, and says whether it agrees.
-pub(crate) fn count<'a, F: Fn(&mut Text<'a>) -> Result<bool, Stop>>(
+// `check` reads a case, from behind its name, and says whether it agrees. Each case has a byte of the text at least, its #.
+pub fn count<'a, F: Fn(&mut Text<'a>) -> Result<bool, Stop>>(
     bytes: &'a [u8],
     check: F,
 ) -> Result<Tally<'a>, Stop>
     requires calls { F.IsAlwaysCallable check }
     requires cases { AllOnward (F.post check) }
-    ensures { IfOk result (λ tally. 0 < tally.cases) }
+    ensures { IfOk result (λ tally. (0 < tally.cases) × (tally.cases ≤ length bytes.now)) }
 {
     let mut text = Text::new(bytes);
     let mut tally = Tally::new();

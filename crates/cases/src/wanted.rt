@@ -1,6 +1,7 @@
 // What a case wants told: a refusal's number and place, or two numbers of an answer that is no refusal.
 ghost use Rattle.std.specs.Prelude.{◌≡◌, true};
 ghost use Rattle.texts.specs.Reading.{Onward};
+ghost use Rattle.cases.specs.Wanted.{wanted_as};
 
 use texts::{Stop, Text};
 
@@ -27,6 +28,18 @@ impl Refused {
     }
 }
 
+// What a mark, whether a refusal is wanted, and two numbers say.
+pub fn wanted_of(is_refusal: bool, first: u32, second: u32) -> Wanted
+    ensures { result ≡ wanted_as is_refusal first second }
+{
+    let refused = Refused {
+        number: first,
+        place: second,
+    };
+    let answer = Answer { first, second };
+    if is_refusal { Err(refused) } else { Ok(answer) }
+}
+
 // A mark, whether a refusal is wanted, and two numbers.
 pub fn read_wanted(text: &mut Text) -> Result<Wanted, Stop>
     ensures { Onward text.old result text.new }
@@ -34,11 +47,5 @@ pub fn read_wanted(text: &mut Text) -> Result<Wanted, Stop>
     let is_refusal = text.mark()?;
     let first = text.number()?;
     let second = text.number()?;
-    if is_refusal {
-        return Ok(Err(Refused {
-            number: first,
-            place: second,
-        }));
-    }
-    Ok(Ok(Answer { first, second }))
+    Ok(wanted_of(is_refusal, first, second))
 }

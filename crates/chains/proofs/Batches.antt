@@ -174,6 +174,11 @@ module _ (n : ℕ) where
       complete-fits i.start i.span (amount_at i kind.Minimum) (amount_at i kind.MinContent) (amount_at i kind.MaxContent)
       f.0 f.1 (f.2 kind.Minimum) (f.2 kind.MinContent) (f.2 kind.MaxContent)
 
+  -- of all items of a sheet; the batches have it each by itself (`gathered-batches`)
+  pub measured-fit : (ts : List Track) (is : List Item) → All (ItemFits n) is → MeasuredFit n (measured_items ts is)
+  unfolding measured_items
+  measured-fit ts is a = all-flat-map complete (ItemFits n) (MeasuredFits n) part-fits (keep (is_measured ts) is) (keep_all (ItemFits n) (is_measured ts) is a)
+
 -- ---- The batches, gathered
 
 chained-items : (rows : List Row) (nexts : List ℕ) (first : ℕ) → chained rows nexts first ≡ flat_map complete (chain_items rows nexts first)

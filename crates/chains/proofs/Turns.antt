@@ -154,21 +154,28 @@ module _ (ts : List Track) (rows : List Row) (heads nexts : List ℕ) (j : ℕ) 
               (rest q l (omega (arith, c.behind q l)))
 
 -- the item before i, and k as its batch's number
+module _ (n : ℕ) (ts : List Track) (rows : List Row) (heads nexts : List ℕ) (i k : ℕ) (item : Item)
+    (few : n ≡ length ts) (fits : All (ItemFits n) (map item_of rows)) (more : 0 < i) (c : Chained ts rows heads nexts i)
+    (read : item ≡ item_of (get_or rows (i - 1) [])) (number : k ≡ batch_of ts item) where
+  pub number_lt : k < batches (length ts)
+  number_lt = rw (number, read) (batch-of-lt ts (item_of (get_or rows (i - 1) [])) n few own)
+    where
+      own : ItemFits n (item_of (get_or rows (i - 1) []))
+      own = all-image-at (ItemFits n) item_of rows (i - 1) [] fits (omega (arith, c.within))
+
+-- the same, of the tracks that rows say
 module _ (tracks rows : List Row) {heads nexts : List ℕ} {i k : ℕ} {item : Item}
     (fits : All (ItemFits (length tracks)) (map item_of rows)) (more : 0 < i) (c : Chained (map track_of tracks) rows heads nexts i)
     (read : item ≡ item_of (get_or rows (i - 1) [])) (number : k ≡ batch_of (map track_of tracks) item) where
-  number_lt : k < batches (length (map track_of tracks))
-  number_lt = rw (number, read) (batch-of-lt (map track_of tracks) (item_of (get_or rows (i - 1) [])) (length tracks) (sym (length-map tracks track_of)) own)
-    where
-      own : ItemFits (length tracks) (item_of (get_or rows (i - 1) []))
-      own = all-image-at (ItemFits (length tracks)) item_of rows (i - 1) [] fits (omega (arith, c.within))
+  known : k < batches (length (map track_of tracks))
+  known = number_lt (length tracks) (map track_of tracks) rows heads nexts i k item (sym (length-map tracks track_of)) fits more c read number
 
   -- the batch has its head
   pub has-head : k < length heads
-  has-head = omega (arith, number_lt, c.all-heads)
+  has-head = omega (arith, known, c.all-heads)
 
   pub chained-before : Chained (map track_of tracks) rows (set heads k (i - 1)) (set nexts (i - 1) (get_or heads k 0)) (i - 1)
-  chained-before = chained-turn (map track_of tracks) rows heads nexts (i - 1) k (number ∙ ap (batch_of (map track_of tracks)) read) number_lt (rw back c)
+  chained-before = chained-turn (map track_of tracks) rows heads nexts (i - 1) k (number ∙ ap (batch_of (map track_of tracks)) read) known (rw back c)
     where
       back : i - 1 + 1 ≡ i
       back = omega arith

@@ -99,6 +99,16 @@ impl Letter {
         }
     }
 
+    // The size that a contribution is measured against.
+    pub fn present(self, line: Line) -> u32
+        ensures { result ≡ (letter_of self).present line }
+    {
+        match self {
+            Letter::A | Letter::B | Letter::C | Letter::D => line.base,
+            Letter::E | Letter::F => line.limit_size(),
+        }
+    }
+
     // Whether it may change a line that gets no increase: (d) lifts limits, (e) and (f) take marks away.
     pub fn changes_unraised(self) -> bool
         ensures { result ≡ changes_unraised self }

@@ -72,7 +72,7 @@ impl<'a> Iterator for Chain<'a> {
         while self.next < self.items.len() {
             let item = Item::of_row(self.items[self.next]);
             self.next = self.nexts[self.next];
-            if let Some(measured) = Measured::of(item) {
+            if let Some(measured) = Measured::complete(item) {
                 return Some(measured);
             }
         }

@@ -15,8 +15,10 @@ use content::content;
 use dots::maximise;
 use finish::finish;
 use kinds::Constraint;
-use letters::Totals;
-use lines::{Chain, Line};
+// What a store is made of, beside numbers and marks.
+pub use letters::Totals;
+use lines::Chain;
+pub use lines::Line;
 
 #[derive(Clone, Copy)]
 pub struct Sized {

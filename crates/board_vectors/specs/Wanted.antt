@@ -1,5 +1,5 @@
 -- What a case wants: the answer in the words of the board's rule, and the sizes behind it. Assumes nothing.
-use Rattle.std.specs.Prelude.{ℕ, Bool, true, false, List, ℤ, pos, neg_ℤ, Option, Some, None, Result, Ok, Err}
+use Rattle.std.specs.Prelude.{ℕ, Bool, true, false, List, ℤ, pos, neg_ℤ, Result, Ok, Err}
 use Rattle.cases.specs.declared.wanted.Answer.{Answer}
 use Rattle.cases.specs.declared.wanted.Refused.{Refused}
 use Rattle.lines.specs.Rule.{FreeTold}
@@ -11,11 +11,6 @@ use Rattle.board_vectors.specs.declared.told.Told.{Told}
 abbrev pub signed : Bool → ℕ → ℤ
 signed true n = neg_ℤ (pos n)
 signed false n = pos n
-
--- the free space, where there is one
-abbrev pub free_as : Bool → ℤ → Option ℤ
-free_as true z = Some z
-free_as false z = None
 
 abbrev pub answer_as : Result Answer Refused → FreeTold → BoardTold
 answer_as (Ok told) free = board told.first free told.second

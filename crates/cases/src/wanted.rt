@@ -28,7 +28,7 @@ impl Refused {
     }
 }
 
-// What a mark, whether a refusal is wanted, and two numbers say.
+// What a case wants by its mark and two numbers. Apart from reading, which promises no value.
 pub fn wanted_of(is_refusal: bool, first: u32, second: u32) -> Wanted
     ensures { result ≡ wanted_as is_refusal first second }
 {

@@ -167,15 +167,15 @@ module _ (n : ℕ) (ts : List Track) (rows : List Row) (heads nexts : List ℕ) 
 module _ (tracks rows : List Row) {heads nexts : List ℕ} {i k : ℕ} {item : Item}
     (fits : All (ItemFits (length tracks)) (map item_of rows)) (more : 0 < i) (c : Chained (map track_of tracks) rows heads nexts i)
     (read : item ≡ item_of (get_or rows (i - 1) [])) (number : k ≡ batch_of (map track_of tracks) item) where
-  known : k < batches (length (map track_of tracks))
-  known = number_lt (length tracks) (map track_of tracks) rows heads nexts i k item (sym (length-map tracks track_of)) fits more c read number
+  row-number-lt : k < batches (length (map track_of tracks))
+  row-number-lt = number_lt (length tracks) (map track_of tracks) rows heads nexts i k item (sym (length-map tracks track_of)) fits more c read number
 
   -- the batch has its head
   pub has-head : k < length heads
-  has-head = omega (arith, known, c.all-heads)
+  has-head = omega (arith, row-number-lt, c.all-heads)
 
   pub chained-before : Chained (map track_of tracks) rows (set heads k (i - 1)) (set nexts (i - 1) (get_or heads k 0)) (i - 1)
-  chained-before = chained-turn (map track_of tracks) rows heads nexts (i - 1) k (number ∙ ap (batch_of (map track_of tracks)) read) known (rw back c)
+  chained-before = chained-turn (map track_of tracks) rows heads nexts (i - 1) k (number ∙ ap (batch_of (map track_of tracks)) read) row-number-lt (rw back c)
     where
       back : i - 1 + 1 ≡ i
       back = omega arith
